@@ -1,5 +1,6 @@
 -- For those who call: from the code's equation to the record of what a message at the root leaves. Relies on append's Laws.
-use Rattle.image.specs.Prelude.{ℕ, ◌+◌, ◌≤◌, ◌<◌, ◌≡◌, sym, subst, List, true, false, arith, length}
+use Rattle.std.specs.Prelude.{ℕ, ◌+◌, ◌≤◌, ◌<◌, ◌≡◌, List, true, false, length}
+use Rattle.image.specs.Prelude.{sym, subst, arith}
 use Rattle.image.specs.Bytes.{u16}
 use Rattle.image.specs.Entry.{Message, puts, drops, clears, message}
 use Rattle.image.specs.Image.{nodes_of, tree_of}

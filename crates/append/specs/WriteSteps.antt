@@ -1,6 +1,7 @@
 -- The steps of the writers: each put after the last one is one put, and the whole is what append's Laws defines.
 -- Relies on octets' `put-put`.
-use Rattle.image.specs.Prelude.{ℕ, ◌+◌, ◌*◌, ◌-◌, ◌≤◌, ◌<◌, ◌≡◌, refl, sym, ap, ap₂, ◌∙◌, List, [], ◌++◌, append-nil, true, false, arith, length, length-append, leb, lt-leb, le-leb}
+use Rattle.std.specs.Prelude.{ℕ, ◌+◌, ◌*◌, ◌-◌, ◌≤◌, ◌<◌, ◌≡◌, refl, List, [], ◌++◌, true, false, length, leb}
+use Rattle.image.specs.Prelude.{sym, ap, ap₂, ◌∙◌, append-nil, arith, length-append, lt-leb, le-leb}
 use Rattle.image.specs.Bytes.{u16, u16_bytes}
 use Rattle.image.specs.Entry.{Message, child, message}
 use Rattle.image.specs.Image.{whole_nodes}

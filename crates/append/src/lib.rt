@@ -1,7 +1,10 @@
 // put, drop and clear as one message at the root: appended where it has room, or held by a new root above the old one. The root lifts nothing, so a
 // message there has the full path as its suffix. The laws of what is written are in specs/Laws.
 // Relies on node (the header, the search, the writer) and on octets (a number of two bytes).
-ghost use Rattle.image.specs.Prelude.{◌≡◌, true, ◌+◌, ◌*◌, ◌<◌, ◌≤◌, length};
+
+#![tactic(auto)]
+
+ghost use Rattle.std.specs.Prelude.{◌≡◌, true, ◌+◌, ◌*◌, ◌<◌, ◌≤◌, length};
 ghost use Rattle.image.specs.Bytes.{u16_bytes};
 ghost use Rattle.image.specs.Entry.{puts, drops, clears};
 ghost use Rattle.image.specs.Image.{whole_nodes, nodes_of, tree_of};

@@ -1,6 +1,7 @@
 -- The requests of a batch one by one, their calls and answers one after another, and a run of calls with one more at its end.
 -- Relies on the definitions of image's Batch and Contract, and on demands' BatchOutcome for the room behind an answer.
-use Rattle.image.specs.Prelude.{ℕ, zero, suc, ◌+◌, ◌-◌, ◌≤◌, ◌≡◌, refl, sym, ap, subst, ◌∙◌, List, [], ◌∷◌, ◌++◌, append_assoc, none, some, arith, length, length-drop}
+use Rattle.std.specs.Prelude.{ℕ, zero, suc, ◌+◌, ◌-◌, ◌≤◌, ◌≡◌, refl, List, [], ◌∷◌, ◌++◌, length}
+use Rattle.image.specs.Prelude.{sym, ap, subst, ◌∙◌, append_assoc, none, some, arith, length-drop}
 use Rattle.image.specs.Bytes.{u16}
 use Rattle.image.specs.Calls.{Call, Answer}
 use Rattle.image.specs.Contract.{Meets, Run, stop, call}

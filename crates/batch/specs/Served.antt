@@ -1,6 +1,7 @@
 -- What a batch keeps from turn to turn, and what each part of it promises.
 -- Relies on image's Batch (requests, answers, the contract) and on questions (1 and 2 are a yes).
-use Rattle.image.specs.Prelude.{ℕ, ◌+◌, ◌-◌, ◌<◌, ◌≤◌, ◌≡◌, List, [], ◌++◌, Option, none, some, length, drop}
+use Rattle.std.specs.Prelude.{ℕ, ◌+◌, ◌-◌, ◌<◌, ◌≤◌, ◌≡◌, List, [], ◌++◌, length, drop}
+use Rattle.image.specs.Prelude.{Option, none, some}
 use Rattle.image.specs.Image.{nodes_of}
 use Rattle.image.specs.Calls.{Answer}
 use Rattle.image.specs.Contract.{Meets, Run}

@@ -1,6 +1,7 @@
 -- The calls of a batch: what each part of the code leaves, from the contracts of the calls' own parts.
 -- Relies on questions (Acted), requests (what was read) and image's Batch.
-use Rattle.image.specs.Prelude.{ℕ, zero, suc, ◌+◌, ◌-◌, ◌<◌, ◌≤◌, ◌≡◌, refl, sym, ap, subst, ◌∙◌, List, [], ◌++◌, some, arith, length, take, drop, length-append, length-take}
+use Rattle.std.specs.Prelude.{ℕ, zero, suc, ◌+◌, ◌-◌, ◌<◌, ◌≤◌, ◌≡◌, refl, List, [], ◌++◌, length, take, drop}
+use Rattle.image.specs.Prelude.{sym, ap, subst, ◌∙◌, some, arith, length-append, length-take}
 use Rattle.image.specs.Bytes.{u16_bytes}
 use Rattle.image.specs.Path.{path_limit, value_limit}
 use Rattle.image.specs.Image.{nodes_of}
@@ -22,7 +23,7 @@ use Rattle.requests.specs.declared.Piece.{Piece}
 use Rattle.requests.specs.declared.Reading.{Reading}
 use Rattle.requests.specs.Pieces.{change_in, query_in, request_in, ChangeWithin, QueryWithin, PieceWithin, Reads, query_most}
 use Rattle.batch.specs.declared.Turn.{Turn}
-use Rattle.batch.specs.Served.{Fresh, Served, Written, Goes, Halts, Turned}
+use Rattle.batch.specs.Served.{Fresh, Served, Written, Halts, Turned}
 
 -- A CALL MADE
 module _ (s w s' w' : List ℕ) (f : Fresh s w) (r : Outcome) where

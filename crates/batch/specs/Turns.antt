@@ -1,5 +1,6 @@
--- Turn after turn: the loop of a batch, and the contract of the whole. Relies on Requests and on what a call keeps (demands' Contracts).
-use Rattle.image.specs.Prelude.{ℕ, suc, ◌+◌, ◌*◌, ◌-◌, ◌/◌, ◌<◌, ◌≤◌, ◌≡◌, refl, sym, ap, ap₂, subst, ◌∙◌, List, [], ◌∷◌, ◌++◌, append_assoc, Option, none, some, arith, length, take, drop, length-append, take_at, drop_at}
+-- Turn after turn: the loop of a batch, and the contract of the whole. Relies on Requests and on what a call keeps (demands' Consequences).
+use Rattle.std.specs.Prelude.{ℕ, suc, ◌+◌, ◌*◌, ◌-◌, ◌/◌, ◌<◌, ◌≤◌, ◌≡◌, refl, List, [], ◌∷◌, ◌++◌, length, take, drop}
+use Rattle.image.specs.Prelude.{sym, ap, ap₂, subst, ◌∙◌, append_assoc, Option, none, some, arith, length-append, take_at, drop_at}
 use Rattle.image.specs.Image.{nodes_of, whole_nodes}
 use Rattle.image.specs.Sound.{sound}
 use Rattle.image.specs.Calls.{acts, settle, work_per_node, work_long, questions, act_questions}
@@ -8,7 +9,7 @@ use Rattle.image.specs.Answers.{refusal_number}
 use Rattle.image.specs.Batch.{Request, first_request, requests_of, call_of, calls_of, answer_bytes, answers_bytes, most_bytes, Stopped, HadRoom, batch_no, zeroed, BatchRuns, BatchMeets}
 use Rattle.image.specs.declared.Refusal.{Refusal}
 use Rattle.octets.specs.Put.{put, put-put, put-size, put-nil}
-use Rattle.demands.specs.Contracts.{stays-sound}
+use Rattle.demands.specs.Consequences.{stays-sound}
 use Rattle.laws.specs.Page.{zeros_of}
 use Rattle.laws.specs.Refusals.{refusal-some}
 use Rattle.rebuild.specs.Rebuild.{cleared}
@@ -16,7 +17,6 @@ use Rattle.questions.specs.Callers.{to_act, plain-settle, plain-number}
 use Rattle.finish.specs.Finished.{cleared-size, cleared-later, cleared-again}
 use Rattle.questions.specs.declared.Admission.{Admission}
 use Rattle.questions.specs.Asked.{Fit, Asked, asked-fit, asked-refused}
-use Rattle.questions.specs.Acted.{passed}
 use Rattle.tree_check.specs.declared.Tally.{Tally}
 use Rattle.batch.specs.declared.Turn.{Turn}
 use Rattle.batch.specs.declared.Batched.{Batched}

@@ -1,7 +1,10 @@
 // A batch: a list of calls as one call. Questions 1 and 2 are asked once; then call after call by the parts of the calls that follow these questions,
 // each on the store as the last one left it, with no second judgement: after each the store is sound again, which is proved. Relies on questions,
 // tree_check (the marks), requests (requests read, answers written), query, edit, maintain, rename, packed (the area zeroed) and node (places).
-ghost use Rattle.image.specs.Prelude.{◌≡◌, ◌+◌, ◌≤◌, true, length};
+
+#![tactic(auto)]
+
+ghost use Rattle.std.specs.Prelude.{◌≡◌, ◌+◌, ◌≤◌, true, length};
 ghost use Rattle.image.specs.Image.{whole_nodes};
 ghost use Rattle.image.specs.Sound.{sound};
 ghost use Rattle.image.specs.Calls.{put, drops, clear, move, settle, tidy, flush, heal};
@@ -18,7 +21,7 @@ use requests::{Change, Piece, Query};
 use tree_check::marks;
 
 // What a batch answers: 0, or the number of the first question with a no; how many calls were done; how many bytes of answers were written.
-#[derive(Drop)]
+#[derive(Clone, Copy)]
 pub struct Batched {
     pub number: u32,
     pub done: usize,
@@ -26,7 +29,7 @@ pub struct Batched {
 }
 
 // One turn of a batch: it stops, or goes on behind a piece and behind its answer.
-#[derive(Drop)]
+#[derive(Clone, Copy)]
 pub enum Turn {
     Stop,
     Goes(usize, usize),

@@ -1,12 +1,13 @@
 -- The contract of a batch fixes its outcome: two outcomes of one input that both meet it have the same number, calls done, bytes written, work
 -- area and table, and the same answers but for what flush and heal answer, which the layout of the nodes decides and no contract fixes.
 -- Relies on the contract of a batch (image), on Demand and on Batches.
-use Rattle.image.specs.Prelude.{ℕ, zero, suc, ◌+◌, ◌-◌, ◌≤◌, ◌≡◌, refl, sym, ap, ap₂, subst, ◌∙◌, List, [], ◌∷◌, ◌++◌, true, arith, length, take, drop, length-append}
+use Rattle.std.specs.Prelude.{ℕ, zero, suc, ◌+◌, ◌-◌, ◌≤◌, ◌≡◌, refl, List, [], ◌∷◌, ◌++◌, true, length, take, drop}
+use Rattle.image.specs.Prelude.{sym, ap, ap₂, subst, ◌∙◌, arith, length-append}
 use Rattle.image.specs.Table.{Row}
 use Rattle.image.specs.Image.{nodes_of}
 use Rattle.image.specs.Sound.{table_of}
-use Rattle.image.specs.Calls.{acts, keeps, asks, put, Upkeep, get, Answer, accepted, refused, answer_at}
-use Rattle.image.specs.PlainMap.{table_on, answers_on}
+use Rattle.image.specs.Calls.{acts, keeps, asks, put, Upkeep, get, Answer, accepted, refused, answer_at, table_at}
+use Rattle.image.specs.PlainMap.{plain_first_no, table_on, answers_on}
 use Rattle.image.specs.Contract.{node_questions, Meets, Run, stop, call}
 use Rattle.image.specs.Batch.{Request, acting, keeping, asking, requests_of, call_of, calls_of, fresh_buffer, answer_bytes, answers_bytes, most_bytes, Stopped, HadRoom, batch_no, zeroed, BatchRuns, BatchMeets}
 use Rattle.demands.specs.Demand.{reported_of, Represents, no-node-answer, goes-on, run-answers, run-goes}
@@ -60,7 +61,7 @@ same-reach n t work (r ∷ rs) (suc d₁) zero room₁ room₂ g₁ g₂ e (call
 same-reach n t work (r ∷ rs) (suc d₁) (suc d₂) room₁ room₂ {s₁} {s₂} g₁ g₂ e (call {a = a₁} {later = later₁} m₁ r₁) (call {a = a₂} {later = later₂} m₂ r₂) k₁ k₂ h₁ h₂ q₁ q₂ =
     let l : length (answer_bytes a₁) ≡ length (answer_bytes a₂) = same_length n t s₁ s₂ g₁ g₂ work r m₁ m₂ in
     let x : SameReach d₁ d₂ later₁ later₂ =
-    same-reach n _ work rs d₁ d₂ (room₁ - length (answer_bytes a₁)) (room₂ - length (answer_bytes a₂))
+    same-reach n (table_at (plain_first_no n (call_of work r) t) (call_of work r) t) work rs d₁ d₂ (room₁ - length (answer_bytes a₁)) (room₂ - length (answer_bytes a₂))
     (goes-on n t s₁ g₁ (call_of work r) m₁) (goes-on n t s₂ g₂ (call_of work r) m₂) (ap₂ (λ i j. i - j) e l) r₁ r₂ (omega arith) (omega arith) h₁.1 h₂.1
     (subst (Stopped (drop d₁ rs)) (room-behind room₁ a₁ later₁) q₁) (subst (Stopped (drop d₂ rs)) (room-behind room₂ a₂ later₂) q₂) in
     record {

@@ -1,7 +1,8 @@
 -- Demand 3 for a batch: what a function that runs promises of a whole list of calls, whatever bytes it is handed. With the number 0 the store
 -- was sound; the answers of the calls done are the plain map's on them, from the table that the store had, and stand byte for byte in the
 -- buffer; the store after them is sound and means the plain map's table. Relies on the contract of a batch (image) and on Demand.
-use Rattle.image.specs.Prelude.{ℕ, ◌*◌, ◌≤◌, ◌≡◌, refl, sym, ap, ◌∙◌, List, [], ◌∷◌, ◌++◌, Bool, true, false, ◌&&◌, false≢true, arith, length, take, drop, leb, le-leb}
+use Rattle.std.specs.Prelude.{ℕ, ◌*◌, ◌≤◌, ◌≡◌, refl, List, [], ◌∷◌, ◌++◌, Bool, true, false, ◌&&◌, length, take, drop, leb}
+use Rattle.image.specs.Prelude.{sym, ap, ◌∙◌, false≢true, arith, le-leb}
 use Rattle.image.specs.Table.{find}
 use Rattle.image.specs.Image.{nodes_of, whole_nodes}
 use Rattle.image.specs.Sound.{sound, table_of, value_in}
@@ -66,8 +67,10 @@ pub all-reported : (work : List ℕ) (rs : List Request) {s s' : List ℕ} {give
     → reported_of (calls_of work rs) given ≡ given
 unfolding no_upkeep calls_of call_of reported_of reported
 all-reported work [] e stop = refl
+all-reported work (acting a ∷ rs) {s = s} {given = []} e r = elim r [ ]
 all-reported work (acting a ∷ rs) {given = b ∷ given} e (call m r) = ap (λ l. b ∷ l) (all-reported work rs e r)
 all-reported work (keeping u i ∷ rs) e r = absurd (false≢true e)
+all-reported work (asking q ∷ rs) {s = s} {given = []} e r = elim r [ ]
 all-reported work (asking q ∷ rs) {given = b ∷ given} e (call m r) = ap (λ l. b ∷ l) (all-reported work rs e r)
 
 pub batch-agrees : {s work calls out s' work' out' : List ℕ} {done written : ℕ} → BatchMeets s work calls out 0 done written s' work' out'

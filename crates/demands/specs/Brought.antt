@@ -1,7 +1,8 @@
 -- Demand 2, nothing else can be read, and nothing is lost: after any list of calls on a sound image a path has just the value that the
 -- history brought to it. The first image had it, a put gave it or a move brought it, and no call touched it since. So get and next.
 -- Relies on the contracts of the calls (image), on Touches and, that lookup finds what the table has, on laws.
-use Rattle.image.specs.Prelude.{ℕ, ◌≤◌, ◌≡◌, refl, sym, ap, subst, ◌∙◌, List, [], ◌∷◌, ◌++◌, Bool, true, false, ◌||◌, not, false≢true, Option, none, some, Option·some-injective, Option·none-ne-some, length, drop, eqb, eqb-true}
+use Rattle.std.specs.Prelude.{ℕ, ◌≤◌, ◌≡◌, refl, List, [], ◌∷◌, ◌++◌, Bool, true, false, ◌||◌, not, length, drop, eqb}
+use Rattle.image.specs.Prelude.{sym, ap, subst, ◌∙◌, false≢true, Option, none, some, Option·some-injective, Option·none-ne-some, eqb-true}
 use Rattle.image.specs.Bytes.{same, before, begins}
 use Rattle.image.specs.Path.{below, value_limit}
 use Rattle.image.specs.Table.{Row, find, is_some, moved, least_after, leads, rising}
@@ -14,7 +15,7 @@ use Rattle.laws.specs.LookupTable.{means-table}
 use Rattle.laws.specs.Next.{Fits, least-yes, least-far, least-early, later-fits, nil-none, first-present}
 use Rattle.laws.specs.Follow.{table-rises}
 use Rattle.laws.specs.Formed.{found-formed}
-use Rattle.demands.specs.Contracts.{number_is, all_yes, was-whole, was_sound, run_sound, Answered, query-answered, get-reads}
+use Rattle.demands.specs.Consequences.{number_is, all_yes, was-whole, was_sound, run_sound, Answered, query-answered, get-reads}
 use Rattle.demands.specs.FindMoved.{find-moved-to, find-moved-from}
 use Rattle.demands.specs.Touches.{act_touches, call_touches, touches, call-spares}
 

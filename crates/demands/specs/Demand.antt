@@ -1,7 +1,8 @@
 -- Demand 3, from the contracts of the calls: for every list of calls on a store just made, the answers are the plain map's, and the image
 -- at the end is sound and means what the map then holds; and the node bound of a move. Record Demand has the statements.
 -- Relies on the contracts and the plain map (image) and, that lookup finds what the table has, on laws.
-use Rattle.image.specs.Prelude.{ℕ, zero, suc, ◌+◌, ◌*◌, ◌≤◌, ◌≡◌, refl, sym, ap, ◌∙◌, List, [], ◌∷◌, Bool, true, false, length}
+use Rattle.std.specs.Prelude.{ℕ, zero, suc, ◌+◌, ◌*◌, ◌≤◌, ◌≡◌, refl, List, [], ◌∷◌, Bool, true, false, length}
+use Rattle.image.specs.Prelude.{sym, ap, ◌∙◌}
 use Rattle.image.specs.Table.{Row, find}
 use Rattle.image.specs.Image.{nodes_of, whole_nodes, header_of}
 use Rattle.image.specs.Sound.{sound, table_of, value_in}
@@ -10,7 +11,7 @@ use Rattle.laws.specs.LookupTable.{means-table}
 use Rattle.image.specs.Upkeep.{changed}
 use Rattle.image.specs.PlainMap.{plain_first_no, reported, table_on, answers_on}
 use Rattle.image.specs.Contract.{node_questions, first_no_on, Besides, Bounded, MoveKeeps, Meets, Made, MakeMeets, Run, stop, call}
-use Rattle.demands.specs.Contracts.{all_yes, stays-sound, run-size}
+use Rattle.demands.specs.Consequences.{all_yes, stays-sound, run-size}
 
 -- the answers of a run that the demand speaks of
 unfoldable pub reported_of : List Call → List Answer → List Answer

@@ -1,6 +1,7 @@
 -- What is found in a table after a move: below `to` what was below `from`, nothing more below `from`, and elsewhere what was there before.
 -- For the theorems about single paths. Relies on the laws of the other changes of a table (crate laws).
-use Rattle.image.specs.Prelude.{ℕ, ◌≡◌, refl, sym, ap, ◌∙◌, List, [], ◌∷◌, ◌++◌, Bool, true, false, none, length, drop}
+use Rattle.std.specs.Prelude.{ℕ, ◌≡◌, refl, List, [], ◌∷◌, ◌++◌, Bool, true, false, length, drop}
+use Rattle.image.specs.Prelude.{sym, ap, ◌∙◌, none}
 use Rattle.image.specs.Bytes.{same, begins}
 use Rattle.image.specs.Path.{below}
 use Rattle.image.specs.Table.{Row, find, rows_below, without_below, with_row, renamed, put_all, moved}

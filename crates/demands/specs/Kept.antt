@@ -1,6 +1,7 @@
 -- Demand 2, what is put is kept: after an accepted put of p, v, on any bytes whatever, and any calls that do not touch p, a get of p with
 -- room for a value gives v; and so with what a first image holds. Relies on the contracts of the calls (image), on Touches and on laws/Formed.
-use Rattle.image.specs.Prelude.{ℕ, ◌≤◌, ◌≡◌, refl, sym, ap, ◌∙◌, List, ◌++◌, true, some, length, drop}
+use Rattle.std.specs.Prelude.{ℕ, ◌≤◌, ◌≡◌, refl, List, ◌++◌, true, length, drop}
+use Rattle.image.specs.Prelude.{sym, ap, ◌∙◌, some}
 use Rattle.image.specs.Path.{value_limit}
 use Rattle.image.specs.Table.{find}
 use Rattle.image.specs.Image.{whole_nodes}
@@ -10,7 +11,7 @@ use Rattle.image.specs.Contract.{Meets, Run, stop}
 use Rattle.laws.specs.Tables.{find-with}
 use Rattle.laws.specs.LookupTable.{means-table}
 use Rattle.laws.specs.Formed.{found-formed}
-use Rattle.demands.specs.Contracts.{all_yes, was-whole, put-formed, run-size, run_sound, get-reads}
+use Rattle.demands.specs.Consequences.{all_yes, was-whole, put-formed, run-size, run_sound, get-reads}
 use Rattle.demands.specs.Touches.{untouched, run-spares}
 
 -- the put's value is in the table that it leaves
@@ -19,7 +20,7 @@ unfolding table_at table_after act_table
 put_there {s} {p = p} {v = v} m e = ap (find p) (m.table ∙ rw (all_yes m e)) ∙ find-with p v (table_of s)
 
 -- A get gives what was put: the length, the value, and the rest of the buffer as it was. That the put is accepted says that its store was
--- whole and sound (was-whole, was_sound of Contracts), so nothing more is asked of the bytes s.
+-- whole and sound (was-whole, was_sound of Consequences), so nothing more is asked of the bytes s.
 pub put-then-get : {s w s₁ w₁ s₂ s₃ w₃ p v buffer : List ℕ} {a b : Answer} {cs : List Call} {given : List Answer}
     → Meets s (acts (put p v) w) a s₁ w₁ → number_of a ≡ 0
     → Run s₁ cs given s₂ → untouched p cs given ≡ true

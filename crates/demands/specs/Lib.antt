@@ -1,4 +1,4 @@
-pub mod Contracts
+pub mod Consequences
 pub mod FindMoved
 pub mod Touches
 pub mod Demand

@@ -1,6 +1,7 @@
 -- Request S-2: an image made before it, whose values have at most 32 bytes, is sound as it was. `sound_within` is `sound` of image/Sound with the limit
 -- of a value given: at today's limit it is `sound`, and a higher limit refuses no image that a lower one takes. Relies on the definitions (image) and on the laws of &&.
-use Rattle.image.specs.Prelude.{ℕ, ◌≤◌, ◌≡◌, refl, sym, ap, ◌∙◌, List, [], ◌∷◌, ◌++◌, Bool, true, false, ◌&&◌, arith, length, eqb, leb, leb-true, le-leb}
+use Rattle.std.specs.Prelude.{ℕ, ◌≤◌, ◌≡◌, refl, List, [], ◌∷◌, ◌++◌, Bool, true, false, ◌&&◌, length, eqb, leb}
+use Rattle.image.specs.Prelude.{sym, ap, ◌∙◌, arith, leb-true, le-leb}
 use Rattle.image.specs.Bytes.{before, shared}
 use Rattle.image.specs.Path.{well_formed, owns, value_limit, value_fits}
 use Rattle.image.specs.Entry.{Message, puts, drops, clears}

@@ -1,6 +1,7 @@
 -- Which paths a call touches, told from the call and its answer alone, and that a path that is not touched keeps what it has.
 -- For the theorems of demand 2 about single paths. Relies on the laws of the changes of a table (laws, FindMoved).
-use Rattle.image.specs.Prelude.{ℕ, zero, suc, ◌≡◌, refl, sym, ap, ◌∙◌, List, [], ◌∷◌, ◌++◌, Bool, true, false, ◌&&◌, ◌||◌, not, length, drop, eqb}
+use Rattle.std.specs.Prelude.{ℕ, zero, suc, ◌≡◌, refl, List, [], ◌∷◌, ◌++◌, Bool, true, false, ◌&&◌, ◌||◌, not, length, drop, eqb}
+use Rattle.image.specs.Prelude.{sym, ap, ◌∙◌}
 use Rattle.image.specs.Bytes.{same, begins}
 use Rattle.image.specs.Path.{below}
 use Rattle.image.specs.Table.{Row, find, moved}
@@ -9,7 +10,7 @@ use Rattle.image.specs.Calls.{Call, acts, keeps, asks, Act, put, drops, clear, m
 use Rattle.image.specs.Contract.{first_no_on, Meets, Run, stop, call}
 use Rattle.octets.specs.Order.{and_left, and_right, not-true, same-eq, begins-split, or-none-right as or_right, or-none-left as or_left}
 use Rattle.laws.specs.Tables.{find-with-other, find-without-other, find-spared}
-use Rattle.demands.specs.Contracts.{number_is}
+use Rattle.demands.specs.Consequences.{number_is}
 use Rattle.demands.specs.FindMoved.{find-moved-to, find-moved-other}
 
 -- An accepted put or drop touches the path that it names; a clear every path below its own; a move every path below from and every path

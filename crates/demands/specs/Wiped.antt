@@ -1,6 +1,7 @@
 -- Request S-1: an accepted clear of the empty path, on any bytes whatever, leaves a store as one just made. "Straight after" it "a next that passes
--- questions 1 to 5 gives 8": whatever its two paths and its buffer. Relies on the contracts of the calls (image) and on Contracts.
-use Rattle.image.specs.Prelude.{ℕ, ◌≤◌, ◌≡◌, refl, sym, ap, ◌∙◌, List, [], ◌∷◌, Bool, true, false, ◌&&◌, ◌||◌, and-true, false≢true, length, eqb, ltb, leb, le-leb}
+-- questions 1 to 5 gives 8": whatever its two paths and its buffer. Relies on the contracts of the calls (image) and on Consequences.
+use Rattle.std.specs.Prelude.{ℕ, ◌≤◌, ◌≡◌, refl, List, [], ◌∷◌, Bool, true, false, ◌&&◌, ◌||◌, length, eqb, ltb, leb}
+use Rattle.image.specs.Prelude.{sym, ap, ◌∙◌, and-true, false≢true, le-leb}
 use Rattle.image.specs.Path.{path_or_empty, path_limit}
 use Rattle.image.specs.Table.{is_some, rows_below, rows_after, first_key, least_after}
 use Rattle.image.specs.Image.{whole_nodes}
@@ -8,7 +9,7 @@ use Rattle.image.specs.Sound.{sound, table_of}
 use Rattle.image.specs.Calls.{acts, asks, clear, next, ask, first_no, work_long, questions, query_questions, Answer, filled, number_of, act_table, table_after, table_at, refused, answer_at}
 use Rattle.image.specs.Contract.{node_questions, first_no_on, Meets, Made}
 use Rattle.laws.specs.Tables.{clear-empty}
-use Rattle.demands.specs.Contracts.{number_is, all_yes, was-whole}
+use Rattle.demands.specs.Consequences.{number_is, all_yes, was-whole}
 
 -- so demand 3's theorem begins anew from it
 pub clear-makes : {s w s₁ w₁ : List ℕ} {a : Answer} → Meets s (acts (clear []) w) a s₁ w₁ → number_of a ≡ 0 → Made s₁

@@ -1,6 +1,7 @@
 -- The steps of the append: one pair's row, and the loop over a leaf's entries. Relies on what put_row promises (packed: RowPut) and on what the
 -- tests of `live_count` promise.
-use Rattle.image.specs.Prelude.{ℕ, ◌+◌, ◌*◌, ◌-◌, ◌≤◌, ◌≡◌, refl, sym, ap, subst, ◌∙◌, List, [], ◌∷◌, ◌++◌, append-nil, append_assoc, Bool, true, false, ◌&&◌, not, true≢false, arith, length, take, drop, length-append, leb, not-true, not-false, leb-true, leb-false}
+use Rattle.std.specs.Prelude.{ℕ, ◌+◌, ◌*◌, ◌-◌, ◌≤◌, ◌≡◌, refl, List, [], ◌∷◌, ◌++◌, Bool, true, false, ◌&&◌, not, length, take, drop, leb}
+use Rattle.image.specs.Prelude.{sym, ap, subst, ◌∙◌, append-nil, append_assoc, true≢false, arith, length-append, not-true, not-false, leb-true, leb-false}
 use Rattle.image.specs.Path.{value_fits, owns}
 use Rattle.image.specs.Entry as defined
 use Rattle.image.specs.Table.{Row, under_prefix}

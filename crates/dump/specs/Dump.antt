@@ -1,6 +1,6 @@
 -- What the walk writes of a node's entries, and what each of its functions asks and gives. Definitions only; the laws are beside.
 -- Relies on live_count/specs (which entry decides a path) and on packed/specs/Rows/Area (the rows of the work area).
-use Rattle.image.specs.Prelude.{ℕ, ◌+◌, ◌*◌, ◌-◌, ◌≤◌, ◌≡◌, List, [], ◌∷◌, ◌++◌, Bool, true, ◌&&◌, cond, length, drop}
+use Rattle.std.specs.Prelude.{ℕ, ◌+◌, ◌*◌, ◌-◌, ◌≤◌, ◌≡◌, List, [], ◌∷◌, ◌++◌, Bool, true, ◌&&◌, cond, length, drop}
 use Rattle.image.specs.Path.{value_fits}
 use Rattle.image.specs.Entry.{Entry, pair, child, message, puts, drops, clears}
 use Rattle.image.specs.Table.{Row, with_row, every_key, rising}

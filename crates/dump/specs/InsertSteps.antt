@@ -1,6 +1,7 @@
 -- The steps of the insertion: a put that decides its path is not among the rows yet, and goes in at its place; the loop over the entries of an
 -- interior node. Relies on what insert_row promises (specs/Insertion: Inserted) and on the laws of tables.
-use Rattle.image.specs.Prelude.{ℕ, suc, ◌+◌, ◌*◌, ◌-◌, ◌≤◌, ◌≡◌, refl, sym, ap, subst, ◌∙◌, List, [], ◌∷◌, ◌++◌, Bool, true, false, ◌&&◌, not, cond, true≢false, none, arith, length, take, drop, drop-append_seam, not-true, not-false}
+use Rattle.std.specs.Prelude.{ℕ, suc, ◌+◌, ◌*◌, ◌-◌, ◌≤◌, ◌≡◌, refl, List, [], ◌∷◌, ◌++◌, Bool, true, false, ◌&&◌, not, cond, length, take, drop}
+use Rattle.image.specs.Prelude.{sym, ap, subst, ◌∙◌, true≢false, none, arith, drop-append_seam, not-true, not-false}
 use Rattle.image.specs.Path.{value_fits}
 use Rattle.image.specs.Entry as defined
 use Rattle.image.specs.Table.{Row, find, with_row, put_all, every_key, rising}

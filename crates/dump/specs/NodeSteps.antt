@@ -1,6 +1,7 @@
 -- The steps of the walk's two functions that call each other: what each call asks, and what each exit owes.
 -- Relies on TreeLaws and on the steps of the append and of the insertion.
-use Rattle.image.specs.Prelude.{ℕ, ◌+◌, ◌-◌, ◌<◌, ◌≤◌, ◌≡◌, refl, sym, ap, ap₂, subst, ◌∙◌, List, [], ◌∷◌, ◌++◌, append-nil, append_assoc, Bool, true, ◌&&◌, arith, length, take, drop}
+use Rattle.std.specs.Prelude.{ℕ, ◌+◌, ◌-◌, ◌<◌, ◌≤◌, ◌≡◌, refl, List, [], ◌∷◌, ◌++◌, Bool, true, ◌&&◌, length, take, drop}
+use Rattle.image.specs.Prelude.{sym, ap, ap₂, subst, ◌∙◌, append-nil, append_assoc, arith}
 use Rattle.image.specs.Bytes.{shared}
 use Rattle.image.specs.Entry.{Entry}
 use Rattle.image.specs.Table.{Row, under_prefix, put_all, rising}

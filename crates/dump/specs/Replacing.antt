@@ -1,6 +1,6 @@
 -- Puts that go into a table one after the other, oldest first, and what the functions that do so ask. Definitions only.
 -- Relies on specs/Dump (a table after an entry) and on specs/Insertion (rows laid in two parts).
-use Rattle.image.specs.Prelude.{ℕ, ◌*◌, ◌≤◌, ◌≡◌, List, [], ◌∷◌, ◌++◌, Bool, true, false, ◌&&◌, length}
+use Rattle.std.specs.Prelude.{ℕ, ◌*◌, ◌≤◌, ◌≡◌, List, [], ◌∷◌, ◌++◌, Bool, true, false, ◌&&◌, length}
 use Rattle.image.specs.Bytes.{u16}
 use Rattle.image.specs.Path.{value_fits}
 use Rattle.image.specs.Entry.{Entry, pair, child, message, puts, drops, clears}

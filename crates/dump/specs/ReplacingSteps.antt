@@ -1,6 +1,7 @@
 -- The steps of the puts that go into the rows of the root's children: an entry by its kind, one put, and the loop over the entries.
 -- Relies on what set_row promises (specs/Insertion: Laid) and on the laws of tables.
-use Rattle.image.specs.Prelude.{ℕ, ◌*◌, ◌≤◌, ◌≡◌, refl, sym, ap, subst, ◌∙◌, List, [], ◌∷◌, ◌++◌, Bool, true, false, ◌&&◌, not, arith, length, leb-true, not-true, not-false}
+use Rattle.std.specs.Prelude.{ℕ, ◌*◌, ◌≤◌, ◌≡◌, refl, List, [], ◌∷◌, ◌++◌, Bool, true, false, ◌&&◌, not, length}
+use Rattle.image.specs.Prelude.{sym, ap, subst, ◌∙◌, arith, leb-true, not-true, not-false}
 use Rattle.image.specs.Bytes.{same, before}
 use Rattle.image.specs.Path.{path_limit, value_fits}
 use Rattle.image.specs.Entry as defined

@@ -1,6 +1,7 @@
 -- The steps of the dump from a root whose messages are all puts: what the walk over its children asks, and that their rows with the puts are
 -- the table of the store. Relies on specs/TreeLaws (an interior node whose messages are puts) and on the steps from the root (RootSteps).
-use Rattle.image.specs.Prelude.{ℕ, ◌+◌, ◌-◌, ◌*◌, ◌≤◌, ◌≡◌, refl, sym, ap, ap₂, subst, ◌∙◌, List, [], ◌∷◌, ◌++◌, true, arith, length}
+use Rattle.std.specs.Prelude.{ℕ, ◌+◌, ◌-◌, ◌*◌, ◌≤◌, ◌≡◌, refl, List, [], ◌∷◌, ◌++◌, true, length}
+use Rattle.image.specs.Prelude.{sym, ap, ap₂, subst, ◌∙◌, arith}
 use Rattle.image.specs.Bytes.{u16, shared}
 use Rattle.image.specs.Entry.{Entry}
 use Rattle.image.specs.Table.{Row, put_all, every_key, rising}

@@ -1,6 +1,7 @@
 -- The steps of the dump from the root: what the first call asks, and that its rows are the table of the store.
 -- Relies on what a sound image is (laws: ButLive) and on the steps of the count from the root (live_count: RootSteps).
-use Rattle.image.specs.Prelude.{ℕ, ◌*◌, ◌≤◌, ◌≡◌, sym, ap, ap₂, ◌∙◌, List, [], ◌++◌, true, arith, length, eqb-true}
+use Rattle.std.specs.Prelude.{ℕ, ◌*◌, ◌≤◌, ◌≡◌, List, [], ◌++◌, true, length}
+use Rattle.image.specs.Prelude.{sym, ap, ap₂, ◌∙◌, arith, eqb-true}
 use Rattle.image.specs.Bytes.{u16}
 use Rattle.image.specs.Table.{Row}
 use Rattle.image.specs.Image.{nodes_of, header_of, tree_at, tree_of}

@@ -1,12 +1,13 @@
 -- What the walk writes of a node's entries is what the tree under the node means: a leaf's pairs are its rows, and an interior node's rows
 -- are those of its children that no message of it says anything of, with its puts that decide their paths put in.
 -- Relies on the laws that join the bytes of a node to its tree (lookup: Look), on KeepLaws of `live_count` and on the laws of sound trees.
-use Rattle.image.specs.Prelude.{ℕ, ◌-◌, ◌<◌, ◌≤◌, ◌≡◌, refl, sym, ap, ◌∙◌, List, [], ◌∷◌, ◌++◌, Bool, true, false, ◌&&◌, not, cond, false≢true, and_comm, Option, none, some, arith, length, drop, length-append, drop-append_seam, leb}
+use Rattle.std.specs.Prelude.{ℕ, ◌-◌, ◌<◌, ◌≤◌, ◌≡◌, refl, List, [], ◌∷◌, ◌++◌, Bool, true, false, ◌&&◌, not, cond, length, drop, leb}
+use Rattle.image.specs.Prelude.{sym, ap, ◌∙◌, false≢true, and_comm, Option, none, some, arith, length-append, drop-append_seam}
 use Rattle.image.specs.Bytes.{begins, shared}
 use Rattle.image.specs.Path.{path_limit, well_formed, owns, value_fits}
 use Rattle.image.specs.Entry as defined
 use Rattle.image.specs.Table.{Row, under_prefix, every_key, with_row}
-use Rattle.image.specs.Image.{Tree, leaf, interior, Forest, tree, Branch, Inside, nodes_of, pair_then, pairs_of, message_then, messages_of, no_branches, branch_then, inside_of, forest_of, tree_at}
+use Rattle.image.specs.Image.{Tree, leaf, interior, Forest, Branch, Inside, nodes_of, pair_then, pairs_of, message_then, messages_of, no_branches, branch_then, inside_of, forest_of, tree_at}
 use Rattle.image.specs.Meaning.{newest, apply, apply_all, rows, rows_in}
 use Rattle.image.specs.Sound.{sound_tree, sound_forest, sound_message, sound_messages, first_pivot, values_fit}
 use Rattle.octets.specs.Order.{and_left, and_right, begins-split}

@@ -1,6 +1,7 @@
 // Rows put at their places among rows of the work area that rise: one row, the place by halving and then a move of the rows behind it, or in the
 // place of its path's row; or rows that rise too, merged in one pass. Relies on packed (the layout of a row, and its writer) and on octets.
-ghost use Rattle.image.specs.Prelude.{◌≡◌, true, none, ◌+◌, ◌*◌, ◌-◌, ◌<◌, ◌≤◌, length, take, drop, get_or};
+ghost use Rattle.std.specs.Prelude.{◌≡◌, true, ◌+◌, ◌*◌, ◌-◌, ◌<◌, ◌≤◌, length, take, drop, get_or};
+ghost use Rattle.image.specs.Prelude.{none};
 ghost use Rattle.image.specs.Bytes.{before, same};
 ghost use Rattle.image.specs.Table.{rising, find, with_row};
 ghost use Rattle.octets.specs.Put.{put};

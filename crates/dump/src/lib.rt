@@ -1,10 +1,13 @@
 // Every row of a sound store's map, rising, in the work area, by one walk: a leaf's pairs are appended, and a node's waiting puts merged into its
 // children's rows. Only what decides a path is written, so there are never more rows than live paths. Where the root's messages are all puts they go
 // into the rows as they are. Relies on live_count (tests, notes), node, packed (one row), insertion and replacing; the caller has checked the store.
+
+#![tactic(auto)]
+
 pub mod insertion;
 pub mod replacing;
 
-ghost use Rattle.image.specs.Prelude.{◌≡◌, true, ◌∷◌, [], ◌++◌, ◌*◌, ◌-◌, ◌≤◌, length};
+ghost use Rattle.std.specs.Prelude.{◌≡◌, true, ◌∷◌, [], ◌++◌, ◌*◌, ◌-◌, ◌≤◌, length};
 ghost use Rattle.image.specs.Path.{value_fits};
 ghost use Rattle.image.specs.Entry.{message, puts};
 ghost use Rattle.image.specs.Table.{under_prefix};
@@ -29,7 +32,7 @@ use node::search::{Pending, Run};
 use node::{Cursor, Entry, Message, PairStep, PathBuffer, Place, Step};
 
 // The places of a key and its value.
-#[derive(Drop)]
+#[derive(Clone, Copy)]
 struct Pair {
     key: Place,
     value: Place,

@@ -1,6 +1,6 @@
 // The puts of a root that holds nothing else, put into its children's rows one after the other, oldest first: no row is taken away, so that
 // there are never more than at the end. Relies on the cursor (node) and on `insertion`, which sets one row.
-ghost use Rattle.image.specs.Prelude.{◌≡◌, List, [], true, ℕ, ◌≤◌, length};
+ghost use Rattle.std.specs.Prelude.{◌≡◌, List, [], true, ℕ, ◌≤◌, length};
 ghost use Rattle.image.specs.Entry.{message};
 ghost use Rattle.node.specs.Whole.{HasEntries};
 ghost use Rattle.node.specs.Places.{EntryWithin, MessageWithin, entry_in, message_in};

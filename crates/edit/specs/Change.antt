@@ -1,5 +1,6 @@
 -- A change of one path as a message at the root: the message, its size, and when the table has a place for it.
-use Rattle.image.specs.Prelude.{ℕ, ◌+◌, ◌≤◌, ◌≡◌, refl, sym, ap, ◌∙◌, List, [], ◌∷◌, Bool, true, false, ◌||◌, cond, false≢true, none, arith, length, ltb, ltb-true}
+use Rattle.std.specs.Prelude.{ℕ, ◌+◌, ◌≤◌, ◌≡◌, refl, List, [], ◌∷◌, Bool, true, false, ◌||◌, cond, length, ltb}
+use Rattle.image.specs.Prelude.{sym, ap, ◌∙◌, false≢true, none, arith, ltb-true}
 use Rattle.packed.specs.Form.Packed.{pair_limit}
 use Rattle.image.specs.Bytes.{same, before}
 use Rattle.image.specs.Path.{well_formed, value_fits, below, value_limit}

@@ -1,5 +1,6 @@
 -- A change carried out: what each step leaves, and the contract of put, drop and clear from it.
-use Rattle.image.specs.Prelude.{ℕ, ◌+◌, ◌*◌, ◌/◌, ◌<◌, ◌≤◌, ◌≡◌, refl, sym, ap, subst, ◌∙◌, List, [], ◌∷◌, ◌++◌, Bool, true, false, ◌||◌, false≢true, ◌⊎◌, inl, arith, length, drop, leb, ltb, le-leb, lt-leb}
+use Rattle.std.specs.Prelude.{ℕ, ◌+◌, ◌*◌, ◌/◌, ◌<◌, ◌≤◌, ◌≡◌, refl, List, [], ◌∷◌, ◌++◌, Bool, true, false, ◌||◌, ◌⊎◌, length, drop, leb, ltb}
+use Rattle.image.specs.Prelude.{sym, ap, subst, ◌∙◌, false≢true, inl, arith, le-leb, lt-leb}
 use Rattle.image.specs.Bytes.{same}
 use Rattle.image.specs.Path.{well_formed, value_limit, value_fits}
 use Rattle.image.specs.Entry.{Message, puts, drops, clears}

@@ -1,5 +1,5 @@
 -- A free node, found by the marks of the check.
-use Rattle.image.specs.Prelude.{ℕ, ◌<◌, ◌≤◌, ◌≡◌, refl, List, get_or}
+use Rattle.std.specs.Prelude.{ℕ, ◌<◌, ◌≤◌, ◌≡◌, refl, List, get_or}
 
 -- r is a number from 1 up to, not including, n whose byte is 0, or it is 0
 pub record FirstFree (seen : List ℕ) (n r : ℕ) : Type 0 where

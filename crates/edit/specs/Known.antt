@@ -1,5 +1,6 @@
 -- How many rows a table has after one change, from whether it has the path.
-use Rattle.image.specs.Prelude.{ℕ, suc, ◌+◌, ◌-◌, ◌≤◌, ◌≡◌, refl, sym, ap, ◌∙◌, List, [], ◌∷◌, Bool, true, false, cond, ◌||◌, Option, none, some, arith, length, eqb, leb, ltb, eqb-true, le-leb}
+use Rattle.std.specs.Prelude.{ℕ, suc, ◌+◌, ◌-◌, ◌≤◌, ◌≡◌, refl, List, [], ◌∷◌, Bool, true, false, cond, ◌||◌, length, eqb, leb, ltb}
+use Rattle.image.specs.Prelude.{sym, ap, ◌∙◌, Option, none, some, arith, eqb-true, le-leb}
 use Rattle.image.specs.Bytes.{same, before, u16}
 use Rattle.image.specs.Entry.{Message}
 use Rattle.image.specs.Table.{Row, find, with_row, without, leads, rising, is_some}

@@ -1,5 +1,6 @@
 -- Room for a message at the root: what each step of the code leaves, and that after a rebuild there always is room.
-use Rattle.image.specs.Prelude.{ℕ, ◌+◌, ◌*◌, ◌/◌, ◌<◌, ◌≤◌, ◌≡◌, refl, ap, ◌∙◌, List, Bool, true, false, false≢true, ◌⊎◌, inl, inr, arith, length, drop, get_or, le-leb}
+use Rattle.std.specs.Prelude.{ℕ, ◌+◌, ◌*◌, ◌/◌, ◌<◌, ◌≤◌, ◌≡◌, refl, List, Bool, true, false, ◌⊎◌, length, drop, get_or}
+use Rattle.image.specs.Prelude.{ap, ◌∙◌, false≢true, inl, inr, arith, le-leb}
 use Rattle.image.specs.Bytes.{u16}
 use Rattle.image.specs.Image.{nodes_of, whole_nodes, tree_of}
 use Rattle.image.specs.Sound.{sound, table_of, is_in, numbers}

@@ -1,7 +1,10 @@
 // put, drop and clear: each is one message at the root, appended, held by a new root above, or added after a rebuild, which leaves room; a clear of
 // all makes the store anew. A call is questions 1 and 2, its part on a store that is fit (put_fit, drop_fit, clear_fit), and the work area zeroed. Relies
 // on: questions, path (3), lookup, live_count (counts), tree_check (marks, where none are lent), append (the message), rebuild, make, node (node 0).
-ghost use Rattle.image.specs.Prelude.{◌≡◌, true, ◌+◌, ◌≤◌, length};
+
+#![tactic(auto)]
+
+ghost use Rattle.std.specs.Prelude.{◌≡◌, true, ◌+◌, ◌≤◌, length};
 ghost use Rattle.image.specs.Path.{well_formed, value_fits, value_limit};
 ghost use Rattle.image.specs.Table.{without};
 ghost use Rattle.image.specs.Image.{nodes_of, whole_nodes, entries_limit};
@@ -30,7 +33,7 @@ pub const WAITING: usize = 8;
 const SPARE: usize = 400;
 
 // What is done to a path.
-#[derive(Drop)]
+#[derive(Clone, Copy)]
 pub enum Change {
     Put,
     Drop,
@@ -38,14 +41,14 @@ pub enum Change {
 }
 
 // On what terms a change is made: how many messages may wait in the root after it, and whether the marks that are lent with it are the store's.
-#[derive(Drop)]
+#[derive(Clone, Copy)]
 pub struct Terms {
     pub waiting: usize,
     pub marked: bool,
 }
 
 // A change that the questions allow: how many paths there are after it, or 65,536 where that is not known, and its terms.
-#[derive(Drop)]
+#[derive(Clone, Copy)]
 pub struct Edit {
     pub change: Change,
     pub count: usize,
@@ -53,7 +56,7 @@ pub struct Edit {
 }
 
 // Where a message goes: to the root, or with a new root into this free node.
-#[derive(Drop)]
+#[derive(Clone, Copy)]
 pub enum Spot {
     AtRoot,
     Above(usize),

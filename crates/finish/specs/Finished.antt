@@ -1,6 +1,7 @@
 -- The live count right and the work area zeroed: what the end of a call leaves.
 -- Relies on append's Laws (the live count written) and on what counting promises.
-use Rattle.image.specs.Prelude.{ℕ, ◌*◌, ◌/◌, ◌<◌, ◌≤◌, ◌≡◌, refl, sym, ap, subst, ◌∙◌, List, ◌++◌, true, arith, length, drop, replicate, length-append, length-drop, length-replicate, drop_at}
+use Rattle.std.specs.Prelude.{ℕ, ◌*◌, ◌/◌, ◌<◌, ◌≤◌, ◌≡◌, refl, List, ◌++◌, true, length, drop, replicate}
+use Rattle.image.specs.Prelude.{sym, ap, subst, ◌∙◌, arith, length-append, length-drop, length-replicate, drop_at}
 use Rattle.image.specs.Image.{nodes_of, whole_nodes}
 use Rattle.image.specs.Sound.{sound, table_of}
 use Rattle.image.specs.Calls.{work_per_node}

@@ -1,6 +1,9 @@
 // The end of a move: the live count, counted anew, is written, and the work area zeroed. Its laws serve the other calls that change the map.
 // Relies on live_count (the count), append (the count written) and packed (the area zeroed).
-ghost use Rattle.image.specs.Prelude.{◌≡◌, true, ◌*◌, ◌≤◌, length};
+
+#![tactic(auto)]
+
+ghost use Rattle.std.specs.Prelude.{◌≡◌, true, ◌*◌, ◌≤◌, length};
 ghost use Rattle.image.specs.Image.{nodes_of, whole_nodes};
 ghost use Rattle.image.specs.Sound.{table_of};
 ghost use Rattle.image.specs.Calls.{work_per_node};

@@ -1,6 +1,7 @@
 -- A list of calls as bytes, and their answers as bytes: how a batch is read, which calls it makes, and the contract of the function that
 -- carries it out. After questions 1 and 2 the calls are those of Contract, each on the store as the last one left it.
-use Rattle.image.specs.Prelude.{ℕ, zero, suc, ◌+◌, ◌*◌, ◌-◌, ◌<◌, ◌≤◌, ◌≡◌, List, [], ◌∷◌, ◌++◌, true, ◌&&◌, cond, Option, none, some, length, take, drop, replicate, leb, eqb}
+use Rattle.std.specs.Prelude.{ℕ, zero, suc, ◌+◌, ◌*◌, ◌-◌, ◌<◌, ◌≤◌, ◌≡◌, List, [], ◌∷◌, ◌++◌, true, ◌&&◌, cond, length, take, drop, replicate, leb, eqb}
+use Rattle.image.specs.Prelude.{Option, none, some}
 use Rattle.image.specs.Bytes.{u16, u16_bytes}
 use Rattle.image.specs.Path.{value_limit, path_limit}
 use Rattle.image.specs.Image.{nodes_of, whole_nodes}

@@ -1,5 +1,5 @@
 -- A few batches read by computation: each kind once, and pieces that do not read, each of which ends the batch in front of it.
-use Rattle.image.specs.Prelude.{ℕ, ◌+◌, ◌≡◌, refl, List, [], ◌∷◌, ◌++◌, length, replicate}
+use Rattle.std.specs.Prelude.{ℕ, ◌+◌, ◌≡◌, refl, List, [], ◌∷◌, ◌++◌, length, replicate}
 use Rattle.image.specs.Bytes.{u16, u16_bytes}
 use Rattle.image.specs.Path.{value_limit}
 use Rattle.image.specs.Calls.{put, drops, clear, move, settle, tidy, flush, heal, get, next, number, filled}

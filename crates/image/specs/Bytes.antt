@@ -1,6 +1,6 @@
 -- Strings of bytes, their order and the numbers in them. A byte is a number below 256; a string of bytes is a `List ℕ`.
 -- Tests answer a Bool and recurse on the list, so that they compute and a contract can be an equation.
-use Rattle.image.specs.Prelude.{ℕ, ◌+◌, ◌*◌, ◌/◌, ◌%◌, List, [], ◌∷◌, Bool, true, false, ◌&&◌, ◌||◌, cond, get_or, ltb, eqb}
+use Rattle.std.specs.Prelude.{ℕ, ◌+◌, ◌*◌, ◌/◌, ◌%◌, List, [], ◌∷◌, Bool, true, false, ◌&&◌, ◌||◌, cond, get_or, ltb, eqb}
 
 -- the same bytes
 unfoldable pub same : List ℕ → List ℕ → Bool

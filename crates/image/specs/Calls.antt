@@ -1,6 +1,7 @@
 -- Document 01, "Questions before a call acts": the calls with their arguments, the questions that each is asked, in order, and the
 -- answers. (make and same stand apart, in Contract: demand 3's lists are calls on one store.)
-use Rattle.image.specs.Prelude.{ℕ, zero, suc, ◌*◌, List, [], ◌∷◌, ◌++◌, Bool, true, false, ◌&&◌, ◌||◌, not, Option, none, some, length, drop, ltb, leb}
+use Rattle.std.specs.Prelude.{ℕ, zero, suc, ◌*◌, List, [], ◌∷◌, ◌++◌, Bool, true, false, ◌&&◌, ◌||◌, not, length, drop, ltb, leb}
+use Rattle.image.specs.Prelude.{Option, none, some}
 use Rattle.image.specs.Path.{well_formed, path_or_empty, may_move, value_fits, value_limit, path_limit}
 use Rattle.image.specs.Table.{Row, find, is_some, with_row, without, rows_below, without_below, moved, least_after, every_key}
 

@@ -1,6 +1,7 @@
 -- Document 01, "Proved on the definitions, as one table", of which case 2 is that of put, drop, get and move since request S-1; and the cases of
 -- requests S-1 and S-2. They hold by computation.
-use Rattle.image.specs.Prelude.{ℕ, zero, suc, ◌*◌, ◌≡◌, refl, List, [], ◌∷◌, ◌++◌, true, false, none, some, length, replicate}
+use Rattle.std.specs.Prelude.{ℕ, zero, suc, ◌*◌, ◌≡◌, refl, List, [], ◌∷◌, ◌++◌, true, false, length, replicate}
+use Rattle.image.specs.Prelude.{none, some}
 use Rattle.image.specs.Bytes.{same, before, begins, shared}
 use Rattle.image.specs.Path.{letter, reads_on, well_formed, below, proper_beginning, may_move, owns, value_fits}
 use Rattle.image.specs.Entry.{puts, clears}

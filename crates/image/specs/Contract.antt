@@ -1,6 +1,7 @@
 -- The contract of each call: what holds of the store before, the call, its answer, and the store and the work area after it; and lists
 -- of calls. Every public function's promise is one of the records Meets, MakeMeets, SameMeets and CheckMeets, or a record of Listing or Batch.
-use Rattle.image.specs.Prelude.{ℕ, zero, suc, ◌+◌, ◌*◌, ◌≤◌, ◌≡◌, List, [], ◌∷◌, ◌++◌, Bool, true, false, ◌&&◌, cond, Option, none, some, length, drop, replicate}
+use Rattle.std.specs.Prelude.{ℕ, zero, suc, ◌+◌, ◌*◌, ◌≤◌, ◌≡◌, List, [], ◌∷◌, ◌++◌, Bool, true, false, ◌&&◌, cond, length, drop, replicate}
+use Rattle.image.specs.Prelude.{Option, none, some}
 use Rattle.image.specs.Bytes.{same}
 use Rattle.image.specs.Table.{Row}
 use Rattle.image.specs.Image.{Forest, end, tree, nodes_of, whole_nodes, header_of}

@@ -1,5 +1,6 @@
 -- Document 01, "The image", "Entries": what stands in a node, and how it is read.
-use Rattle.image.specs.Prelude.{ℕ, zero, suc, ◌-◌, List, [], ◌∷◌, ◌&&◌, cond, Option, none, some, length, take, drop, leb, eqb}
+use Rattle.std.specs.Prelude.{ℕ, zero, suc, ◌-◌, List, [], ◌∷◌, ◌&&◌, cond, length, take, drop, leb, eqb}
+use Rattle.image.specs.Prelude.{Option, none, some}
 use Rattle.image.specs.Bytes.{u16}
 
 -- "a message is a put, a drop or a clear": its suffix, and a put's value

@@ -1,6 +1,7 @@
 -- Examples beyond the paper's thirteen, for rules that those do not touch: the ends of a range, a whole image with its live count, upkeep.
 -- They hold by computation. Images of several levels, made and read by the second program, are in crate samples.
-use Rattle.image.specs.Prelude.{ℕ, ◌*◌, ◌≡◌, refl, List, [], ◌∷◌, ◌++◌, true, false, some, replicate}
+use Rattle.std.specs.Prelude.{ℕ, ◌*◌, ◌≡◌, refl, List, [], ◌∷◌, ◌++◌, true, false, replicate}
+use Rattle.image.specs.Prelude.{some}
 use Rattle.image.specs.Bytes.{same, before, begins, shared, zeros, u16}
 use Rattle.image.specs.Path.{letter, reads_on, well_formed, owns, value_fits}
 use Rattle.image.specs.Entry.{drops, clears, keyed, pointer, entry_of, entry_then, read_all, entries_of}

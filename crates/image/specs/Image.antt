@@ -1,5 +1,6 @@
 -- Document 01, "The image": the nodes of a store, node 0, and the tree that the nodes hold.
-use Rattle.image.specs.Prelude.{ℕ, zero, suc, ◌+◌, ◌*◌, ◌/◌, List, [], ◌∷◌, Bool, ◌&&◌, cond, Option, none, some, take, drop, leb, eqb}
+use Rattle.std.specs.Prelude.{ℕ, zero, suc, ◌+◌, ◌*◌, ◌/◌, List, [], ◌∷◌, Bool, ◌&&◌, cond, take, drop, leb, eqb}
+use Rattle.image.specs.Prelude.{Option, none, some}
 use Rattle.image.specs.Bytes.{u16, zeros}
 use Rattle.image.specs.Entry.{Message, Entry, pair, child, message, entries_of}
 use Rattle.image.specs.Table.{Row}

@@ -1,6 +1,7 @@
 -- Document 01: "A listing holds its place, the last path given. The place is lent to each step, which moves it on. A refused step does not
 -- change it." The definitions that the listing's contracts cite. Relies on: the questions and answers of next.
-use Rattle.image.specs.Prelude.{ℕ, zero, suc, ◌≡◌, List, [], ◌∷◌, true, cond, Option, some, take, drop, replicate, leb}
+use Rattle.std.specs.Prelude.{ℕ, zero, suc, ◌≡◌, List, [], ◌∷◌, true, cond, take, drop, replicate, leb}
+use Rattle.image.specs.Prelude.{Option, some}
 use Rattle.image.specs.Bytes.{before}
 use Rattle.image.specs.Path.{path_limit}
 use Rattle.image.specs.Table.{Row, least_after}

@@ -1,6 +1,7 @@
 -- Document 01, "Meaning": `lookup` as the paper tells it, from the root down; and `rows`, the table of a tree, by the plain map's own
 -- steps. They say the same of a sound image: law `means-table` of crate laws.
-use Rattle.image.specs.Prelude.{ℕ, List, [], ◌∷◌, ◌++◌, cond, Option, none, some, length, drop}
+use Rattle.std.specs.Prelude.{ℕ, List, [], ◌∷◌, ◌++◌, cond, length, drop}
+use Rattle.image.specs.Prelude.{Option, none, some}
 use Rattle.image.specs.Bytes.{same, begins, shared}
 use Rattle.image.specs.Path.{owns}
 use Rattle.image.specs.Entry.{Message, puts, drops, clears}

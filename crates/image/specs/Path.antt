@@ -1,5 +1,5 @@
 -- Document 01, "Paths and values": which strings are paths, what is below a path, what a range owns, which values fit.
-use Rattle.image.specs.Prelude.{ℕ, suc, List, [], ◌∷◌, Bool, ◌&&◌, ◌||◌, not, cond, length, leb, eqb}
+use Rattle.std.specs.Prelude.{ℕ, suc, List, [], ◌∷◌, Bool, ◌&&◌, ◌||◌, not, cond, length, leb, eqb}
 use Rattle.image.specs.Bytes.{same, before, begins}
 
 -- a path, a suffix, a pivot and a value are lists of bytes

@@ -1,5 +1,5 @@
 -- Document 01, "The plain path map": it holds n and a table, and is fed each call's name and arguments, and nothing of the store.
-use Rattle.image.specs.Prelude.{ℕ, List, [], ◌∷◌}
+use Rattle.std.specs.Prelude.{ℕ, List, [], ◌∷◌}
 use Rattle.image.specs.Table.{Row}
 use Rattle.image.specs.Calls.{Call, acts, keeps, asks, Answer, ask, first_no, work_long, questions, answer_at, table_at}
 

@@ -1,6 +1,5 @@
--- The names of the kit's libraries that the files here use, passed on so that each file takes them by one import: numbers, equality, truth
--- values, lists and their parts, tests on numbers, case splits, and what the solvers are handed. It declares nothing.
-pub use Rattle.std.specs.Prelude.{ℕ, ◌≤◌, ◌+◌, ◌-◌, ◌<◌, ◌*◌, suc, zero, ◌/◌, ◌%◌, ◌≡◌, refl, ◌⊎◌, ◌≢◌, ◌↔◌, true, false, Bool, ◌&&◌, cond, not, ◌||◌, List, [], ◌∷◌, ◌++◌, eqb, leb, ltb, length, drop, take, get_or, replicate, set}
+-- The laws of the kit's libraries that the files here use, passed on so that each file takes them by one import: on equality, truth values,
+-- numbers, lists and their parts; and options. Operators and plain words come from the library's own Prelude. It declares nothing.
 pub use Rattle.std.proofs.Common.{◌∙◌, sym, ap, ap₂, subst, inl, inr, ⊎_elim, true≢false, append_assoc, append-nil, arith, length-append, length-drop, length-set, drop_of_length-le, take-append-drop, length-take, length-take-le, drop-drop, take_at, drop_at, drop-cons, get_or-set_other, get_or-set_same, take-add, take_all, get_or-drop, get_or-take, take-take, take-suc, take-suc-set, drop-set-lt, ext_get_or, get_or-append-add, leb-true, le-leb, eq-eqb, eqb-true, ne_eqb, lt-ltb, ltb-true, leb-false, le-ltb, ltb-false, rules, add-one, mul-le-mul_right, mul-suc, mul-zero, one-mul, suc-mul}
 pub use Rattle.std.proofs.Math.Path.{fun_ext}
 pub use Rattle.std.proofs.lemmas.Bool.{false≢true, not-true, not-false, lt-leb, eqb-false}

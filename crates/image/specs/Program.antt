@@ -1,6 +1,7 @@
 -- Document 01, "The program": the lines that it reads, and the text that it prints for each, when the plain map of n nodes holds a table.
 -- Relies on: the plain map's questions, answers and tables. Text is a list of ASCII codes.
-use Rattle.image.specs.Prelude.{ℕ, zero, suc, ◌+◌, ◌*◌, ◌-◌, ◌/◌, ◌%◌, List, [], ◌∷◌, ◌++◌, Bool, false, ◌||◌, cond, Option, none, some, length, take, replicate, ltb, eqb}
+use Rattle.std.specs.Prelude.{ℕ, zero, suc, ◌+◌, ◌*◌, ◌-◌, ◌/◌, ◌%◌, List, [], ◌∷◌, ◌++◌, Bool, false, ◌||◌, cond, length, take, replicate, ltb, eqb}
+use Rattle.image.specs.Prelude.{Option, none, some}
 use Rattle.image.specs.Bytes.{same}
 use Rattle.image.specs.Path.{path_or_empty, value_limit}
 use Rattle.image.specs.Table.{Row, rows_below}

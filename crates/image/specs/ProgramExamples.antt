@@ -1,6 +1,6 @@
 -- Document 01's example of the program, and near misses of its line language and of request S-1's lone /, as equations that hold by computation.
 -- Relies on: Program.
-use Rattle.image.specs.Prelude.{ℕ, zero, suc, ◌+◌, ◌*◌, ◌≡◌, refl, List, [], ◌∷◌, ◌++◌, replicate}
+use Rattle.std.specs.Prelude.{ℕ, zero, suc, ◌+◌, ◌*◌, ◌≡◌, refl, List, [], ◌∷◌, ◌++◌, replicate}
 use Rattle.image.specs.Bytes.{same, before, begins}
 use Rattle.image.specs.Path.{letter, reads_on, well_formed, below, proper_beginning, may_move, value_limit, value_fits}
 use Rattle.image.specs.Table.{Row, find, is_some, with_row, without, rows_below, without_below, renamed, put_all, moved, every_key}

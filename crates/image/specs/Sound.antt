@@ -1,6 +1,7 @@
 -- Document 01, "Sound means": the rules, one definition each, and `sound`, which asks them all of the bytes of an image.
 -- Layout, kinds, levels and the reading of entries are asked by `tree_of` of Image: what breaks them is an unread node.
-use Rattle.image.specs.Prelude.{ℕ, List, [], ◌∷◌, ◌++◌, Bool, true, false, ◌&&◌, ◌||◌, not, Option, length, ltb, leb, eqb}
+use Rattle.std.specs.Prelude.{ℕ, List, [], ◌∷◌, ◌++◌, Bool, true, false, ◌&&◌, ◌||◌, not, length, ltb, leb, eqb}
+use Rattle.image.specs.Prelude.{Option}
 use Rattle.image.specs.Bytes.{same, before, shared}
 use Rattle.image.specs.Path.{well_formed, owns, value_fits}
 use Rattle.image.specs.Entry.{Message, puts, drops, clears}

@@ -1,6 +1,7 @@
 -- Document 01, "The map and the calls" and "The plain path map": a table of paths with their values, each path at most once. The paper
 -- leaves its order free; here the paths rise, so that two tables that hold the same are equal lists.
-use Rattle.image.specs.Prelude.{ℕ, List, [], ◌∷◌, ◌++◌, Bool, true, false, ◌&&◌, cond, Option, none, some, length, drop}
+use Rattle.std.specs.Prelude.{ℕ, List, [], ◌∷◌, ◌++◌, Bool, true, false, ◌&&◌, cond, length, drop}
+use Rattle.image.specs.Prelude.{Option, none, some}
 use Rattle.image.specs.Bytes.{same, before}
 use Rattle.image.specs.Path.{below}
 

@@ -1,5 +1,6 @@
 -- Document 01, "Upkeep": what flush, heal, settle and tidy leave; and the counts that demand 3's bound speaks of.
-use Rattle.image.specs.Prelude.{ℕ, zero, suc, ◌+◌, ◌-◌, ◌/◌, List, [], ◌∷◌, ◌++◌, Bool, true, false, ◌&&◌, ◌||◌, not, cond, Option, none, some, length, drop, leb, eqb}
+use Rattle.std.specs.Prelude.{ℕ, zero, suc, ◌+◌, ◌-◌, ◌/◌, List, [], ◌∷◌, ◌++◌, Bool, true, false, ◌&&◌, ◌||◌, not, cond, length, drop, leb, eqb}
+use Rattle.image.specs.Prelude.{Option, none, some}
 use Rattle.image.specs.Bytes.{same, before, shared}
 use Rattle.image.specs.Entry.{Message, puts, drops, clears, pivot_limit}
 use Rattle.image.specs.Table.{Row}

@@ -1,6 +1,8 @@
 // The numbers of the format, the answers of the store's calls as types, and the place of a listing. specs/Answers.antt gives each case of an answer
 // its number; the other files of specs/ hold the paper's definitions, which the contracts of the crates above cite. Relies on no other crate.
 
+#![tactic(auto)]
+
 // The numbers of the image, as document 01 gives them, and the kinds of a batch, which are ours. Code cites them by name; the definitions of
 // specs/ have their own, and a proof that meets them holds only while the two agree.
 pub const VALUE_LIMIT: usize = 48;
@@ -64,7 +66,7 @@ pub const FLUSH: usize = 0x0042;
 pub const HEAL: usize = 0x0043;
 
 // Which question got a no. The comment is the question; specs/Answers.antt has its number.
-#[derive(Drop)]
+#[derive(Clone, Copy)]
 pub enum Refusal {
     // Is each store a whole number of nodes, 32 to 1,024, and any work area long enough?
     Length,
@@ -89,21 +91,21 @@ pub enum Refusal {
 }
 
 // The answer of a call that changes the store.
-#[derive(Drop)]
+#[derive(Clone, Copy)]
 pub enum Outcome {
     Done,
     Refused(Refusal),
 }
 
 // The answer of get and next: how many bytes stand at the front of the buffer.
-#[derive(Drop)]
+#[derive(Clone, Copy)]
 pub enum Found {
     Length(usize),
     Refused(Refusal),
 }
 
 // The answer of same.
-#[derive(Drop)]
+#[derive(Clone, Copy)]
 pub enum Sameness {
     Same,
     Different,
@@ -111,14 +113,14 @@ pub enum Sameness {
 }
 
 // The answer of check: a sound image, with how many paths it holds.
-#[derive(Drop)]
+#[derive(Clone, Copy)]
 pub enum Verdict {
     Sound(usize),
     Refused(Refusal),
 }
 
 // The place of a listing: the first `len` bytes are the last path given. With `len` 0 none has been given yet.
-#[derive(Drop)]
+#[derive(Clone, Copy)]
 pub struct Listing {
     pub last: [u8; 64],
     pub len: usize,

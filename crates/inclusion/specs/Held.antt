@@ -1,6 +1,6 @@
 -- What the walk asks of each path that it comes to, and what it decides: every path of one image is in another.
 -- Relies on: what is present in an image (successor/specs/Walk) and in a table (laws/Reading/Seek).
-use Rattle.image.specs.Prelude.{ℕ, List, Bool, ◌||◌, not}
+use Rattle.std.specs.Prelude.{ℕ, List, Bool, ◌||◌, not}
 use Rattle.image.specs.Table.{Row, every_key}
 use Rattle.laws.specs.Reading.Seek.{every, present}
 use Rattle.successor.specs.Walk.{is_present}

@@ -1,6 +1,7 @@
 -- The walk from the root decides inclusion: it comes to every path that is present, and asks nothing of those that are not.
 -- Relies on: Held, that every present path stands in an entry (laws/Reading/Seek), and that lookup is the table (successor/specs/Present).
-use Rattle.image.specs.Prelude.{ℕ, ◌≡◌, refl, sym, ap, ◌∙◌, List, [], ◌∷◌, Bool, true, false, ◌||◌, not, Option, none, some}
+use Rattle.std.specs.Prelude.{ℕ, ◌≡◌, refl, List, [], ◌∷◌, Bool, true, false, ◌||◌, not}
+use Rattle.image.specs.Prelude.{sym, ap, ◌∙◌, Option, none, some}
 use Rattle.image.specs.Bytes.{shared, u16}
 use Rattle.image.specs.Table.{Row, find, is_some, every_key}
 use Rattle.image.specs.Image.{tree_at, tree_of}

@@ -1,6 +1,7 @@
 -- The steps of the walk: one path, the paths of an entry, and a list of paths in two parts, of which the first may decide.
 -- Relies on: Held, and successor's laws on what is present and on the paths of entries.
-use Rattle.image.specs.Prelude.{ℕ, ◌-◌, ◌<◌, ◌≤◌, ◌≡◌, refl, sym, ap, ◌∙◌, List, [], ◌∷◌, ◌++◌, Bool, true, false, ◌&&◌, not, and-true, take, drop}
+use Rattle.std.specs.Prelude.{ℕ, ◌-◌, ◌<◌, ◌≤◌, ◌≡◌, refl, List, [], ◌∷◌, ◌++◌, Bool, true, false, ◌&&◌, not, take, drop}
+use Rattle.image.specs.Prelude.{sym, ap, ◌∙◌, and-true}
 use Rattle.image.specs.Entry as defined
 use Rattle.image.specs.Image.{Branch}
 use Rattle.image.specs.Sound.{sound, value_in}

@@ -1,7 +1,10 @@
 // Whether every path of one store is in another: one walk over the first, which looks up each pair's and each put's path in the second. The first is
 // asked only for a path that the second lacks: a message may have removed it. Relies on: two sound stores (the caller has checked them), the cursor
 // of node, lookup, octets, successor's paths of entries and children.
-ghost use Rattle.image.specs.Prelude.{◌≡◌, true, [], ◌∷◌, ◌++◌, ◌≤◌, length};
+
+#![tactic(auto)]
+
+ghost use Rattle.std.specs.Prelude.{◌≡◌, true, [], ◌∷◌, ◌++◌, ◌≤◌, length};
 ghost use Rattle.image.specs.Image.{tree_at};
 ghost use Rattle.image.specs.Sound.{sound, table_of};
 ghost use Rattle.laws.specs.Reading.SeekHere.{under, keys_here};

@@ -1,6 +1,7 @@
 -- All that makes an image sound but its live count: what holds between the write of a message and the write of the new count.
 -- Relies on image's `sound`.
-use Rattle.image.specs.Prelude.{ℕ, ◌≤◌, ◌<◌, ◌≡◌, sym, ◌∙◌, List, Bool, true, ◌&&◌, length, ltb, leb, eqb, ltb-true, leb-true, eqb-true, lt-ltb, le-leb, eq-eqb}
+use Rattle.std.specs.Prelude.{ℕ, ◌≤◌, ◌<◌, ◌≡◌, List, Bool, true, ◌&&◌, length, ltb, leb, eqb}
+use Rattle.image.specs.Prelude.{sym, ◌∙◌, ltb-true, leb-true, eqb-true, lt-ltb, le-leb, eq-eqb}
 use Rattle.image.specs.Image.{Header, node_bytes, nodes_of, header_of, header_laid_out, tree_of}
 use Rattle.image.specs.Meaning.{rows}
 use Rattle.image.specs.Sound.{sound, sound_tree, sound_root, sound_header, once, in_range, numbers, lowest, highest, table_of}

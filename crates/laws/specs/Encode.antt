@@ -1,5 +1,6 @@
 -- Writing entries, and reading them back.
-use Rattle.image.specs.Prelude.{ℕ, zero, suc, ◌+◌, ◌-◌, ◌/◌, ◌%◌, ◌≤◌, ◌*◌, ◌<◌, ◌≡◌, refl, ap, ◌∙◌, ap₂, List, [], ◌∷◌, ◌++◌, Bool, true, ◌&&◌, cond, false, none, some, Option, Option·none-ne-some, Option·some-injective, arith, length, take, drop, length-append, length-drop, List·getD-append, take-append_seam, drop-append_seam, drop-append-le, take-append-le, leb, le-leb, leb-true}
+use Rattle.std.specs.Prelude.{ℕ, zero, suc, ◌+◌, ◌-◌, ◌/◌, ◌%◌, ◌≤◌, ◌*◌, ◌<◌, ◌≡◌, refl, List, [], ◌∷◌, ◌++◌, Bool, true, ◌&&◌, cond, false, length, take, drop, leb}
+use Rattle.image.specs.Prelude.{ap, ◌∙◌, ap₂, none, some, Option, Option·none-ne-some, Option·some-injective, arith, length-append, length-drop, List·getD-append, take-append_seam, drop-append_seam, drop-append-le, take-append-le, le-leb, leb-true}
 use Rattle.image.specs.Bytes.{u16, u16_bytes}
 use Rattle.octets.specs.Order.{and_left, and_right}
 use Rattle.image.specs.Entry.{puts, drops, clears, Entry, pair, child, message, keyed, pointer, entry_of, entry_then, read_all, entries_of}

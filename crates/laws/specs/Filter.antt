@@ -1,5 +1,6 @@
 -- The rows of a table that pass a test; and rows without, and with, a common beginning of their keys.
-use Rattle.image.specs.Prelude.{ℕ, ◌≡◌, refl, sym, ap, ap₂, ◌∙◌, List, [], ◌∷◌, ◌++◌, Bool, true, false, ◌&&◌, not, cond, length, drop, cases}
+use Rattle.std.specs.Prelude.{ℕ, ◌≡◌, refl, List, [], ◌∷◌, ◌++◌, Bool, true, false, ◌&&◌, not, cond, length, drop}
+use Rattle.image.specs.Prelude.{sym, ap, ap₂, ◌∙◌, cases}
 use Rattle.image.specs.Bytes.{same, before, begins, shared}
 use Rattle.image.specs.Path.{well_formed, owns, value_fits, below}
 use Rattle.image.specs.Table.{Row, every_key, under_prefix, leads, rising, with_row, rows_below}

@@ -1,6 +1,7 @@
 -- What follows a path in a rising table: once the first of the rows greater than a path is passed, the rows greater than it are the later
 -- ones. For the calls that walk a whole store by next.
-use Rattle.image.specs.Prelude.{leb-true, ℕ, ◌≤◌, ◌≡◌, refl, sym, ap, ◌∙◌, List, [], ◌∷◌, Bool, true, false, false≢true, arith, length}
+use Rattle.std.specs.Prelude.{ℕ, ◌≤◌, ◌≡◌, refl, List, [], ◌∷◌, Bool, true, false, length}
+use Rattle.image.specs.Prelude.{leb-true, sym, ap, ◌∙◌, false≢true, arith}
 use Rattle.image.specs.Bytes.{before}
 use Rattle.image.specs.Path.{well_formed, reads_on}
 use Rattle.image.specs.Table.{Row, rows_after, leads, rising}

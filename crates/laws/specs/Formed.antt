@@ -1,6 +1,7 @@
 -- The paths of a sound image are well formed. So none is empty, and what is below a path and greater than the empty one is all that is below it.
 -- Relies on Reading/Seek (each row stands in the tree as a pair or a put), on Follow and on Filter.
-use Rattle.image.specs.Prelude.{ℕ, ◌≡◌, refl, List, [], ◌∷◌, true, false, Option, none, some}
+use Rattle.std.specs.Prelude.{ℕ, ◌≡◌, refl, List, [], ◌∷◌, true, false}
+use Rattle.image.specs.Prelude.{Option, none, some}
 use Rattle.image.specs.Bytes.{begins}
 use Rattle.image.specs.Path.{well_formed}
 use Rattle.image.specs.Table.{Row, find, is_some, rows_below, rows_after, every_key, leads, rising}

@@ -1,5 +1,6 @@
 -- A tree depends on the bytes of its own nodes alone: where those stay, it stays.
-use Rattle.image.specs.Prelude.{ℕ, zero, suc, ◌≡◌, refl, ap, ap₂, subst, List, [], ◌∷◌, ◌++◌, Bool, true, false, ◌||◌, false≢true, Option, none, some, eqb, eq-eqb, cases}
+use Rattle.std.specs.Prelude.{ℕ, zero, suc, ◌≡◌, refl, List, [], ◌∷◌, ◌++◌, Bool, true, false, ◌||◌, eqb}
+use Rattle.image.specs.Prelude.{ap, ap₂, subst, false≢true, Option, none, some, eq-eqb, cases}
 use Rattle.image.specs.Table.{Row}
 use Rattle.image.specs.Image.{Tree, interior, tree, Branch, Inside, node_bytes, node_entries, pairs_of, inside_of, forest_of, leaf_of, interior_of, or_none, tree_at}
 use Rattle.image.specs.Sound.{numbers, numbers_in, is_in}

@@ -1,5 +1,6 @@
 -- The pairs of a settled tree are its rows; and a tree with no message is settled.
-use Rattle.image.specs.Prelude.{ℕ, suc, ◌+◌, ◌-◌, ◌≡◌, refl, ap, ap₂, ◌∙◌, List, [], ◌∷◌, ◌++◌, Bool, true, false≢true, arith, eqb, eqb-true, length, length-append}
+use Rattle.std.specs.Prelude.{ℕ, suc, ◌+◌, ◌-◌, ◌≡◌, refl, List, [], ◌∷◌, ◌++◌, Bool, true, eqb, length}
+use Rattle.image.specs.Prelude.{ap, ap₂, ◌∙◌, false≢true, arith, eqb-true, length-append}
 use Rattle.image.specs.Bytes.{shared}
 use Rattle.image.specs.Table.{Row, under_prefix}
 use Rattle.image.specs.Image.{Tree, unread, leaf, interior, Forest, end, tree}

@@ -1,5 +1,6 @@
 -- The table of a sound tree holds just what lookup finds.
-use Rattle.image.specs.Prelude.{ℕ, ◌≡◌, refl, sym, ap, ◌∙◌, List, [], ◌∷◌, ◌++◌, Bool, true, false, ◌&&◌, not, false≢true, Option, none, length, drop, cases}
+use Rattle.std.specs.Prelude.{ℕ, ◌≡◌, refl, List, [], ◌∷◌, ◌++◌, Bool, true, false, ◌&&◌, not, length, drop}
+use Rattle.image.specs.Prelude.{sym, ap, ◌∙◌, false≢true, Option, none, cases}
 use Rattle.image.specs.Bytes.{same, before, begins, shared}
 use Rattle.image.specs.Path.{well_formed, owns}
 use Rattle.image.specs.Entry.{Message, puts, drops, clears}

@@ -1,5 +1,6 @@
 -- Next, told by what is present: the least path below p and greater than q.
-use Rattle.image.specs.Prelude.{ℕ, ◌≡◌, refl, sym, ap, ◌∙◌, List, [], ◌∷◌, Bool, true, false, false≢true, none, some, cases}
+use Rattle.std.specs.Prelude.{ℕ, ◌≡◌, refl, List, [], ◌∷◌, Bool, true, false}
+use Rattle.image.specs.Prelude.{sym, ap, ◌∙◌, false≢true, none, some, cases}
 use Rattle.image.specs.Bytes.{same, before, begins}
 use Rattle.image.specs.Path.{below}
 use Rattle.image.specs.Table.{Row, find, is_some, rows_below, rows_after, first_key, least_after, leads, rising}

@@ -1,6 +1,7 @@
 -- The 1,024 bytes of a node with given entries, and that they read back: what joins a written image to its tree, for the packed form, the
 -- slices and the upkeep alike. Relies on Encode (entries as bytes).
-use Rattle.image.specs.Prelude.{ℕ, zero, suc, ◌+◌, ◌-◌, ◌/◌, ◌%◌, ◌≤◌, ◌*◌, ◌≡◌, refl, ap, ◌∙◌, List, [], ◌∷◌, ◌++◌, true, some, Option, none, arith, length, take, drop, replicate, length-append, length-replicate, drop-append-add, take-append_seam, drop-append_seam, le-leb, eq-eqb}
+use Rattle.std.specs.Prelude.{ℕ, zero, suc, ◌+◌, ◌-◌, ◌/◌, ◌%◌, ◌≤◌, ◌*◌, ◌≡◌, refl, List, [], ◌∷◌, ◌++◌, true, length, take, drop, replicate}
+use Rattle.image.specs.Prelude.{ap, ◌∙◌, some, Option, none, arith, length-append, length-replicate, drop-append-add, take-append_seam, drop-append_seam, le-leb, eq-eqb}
 use Rattle.image.specs.Bytes.{u16, zeros, u16_bytes}
 use Rattle.image.specs.Entry.{Entry, pair, child, entries_of}
 use Rattle.image.specs.Table.{Row}

@@ -1,5 +1,6 @@
 -- Trees side by side, with full pivots: the pieces of which a node is made, and that a cut leaves.
-use Rattle.image.specs.Prelude.{ℕ, zero, suc, ◌≡◌, refl, sym, ap, ap₂, ◌∙◌, List, [], ◌∷◌, ◌++◌, append-nil, append_assoc, Bool, true, false, ◌&&◌, false≢true, length, drop, eqb}
+use Rattle.std.specs.Prelude.{ℕ, zero, suc, ◌≡◌, refl, List, [], ◌∷◌, ◌++◌, Bool, true, false, ◌&&◌, length, drop, eqb}
+use Rattle.image.specs.Prelude.{sym, ap, ap₂, ◌∙◌, append-nil, append_assoc, false≢true}
 use Rattle.image.specs.Bytes.{before, shared}
 use Rattle.image.specs.Image.{Tree, unread, leaf, interior, Forest, end, tree}
 use Rattle.image.specs.Meaning.{high_of, apply_all, rows, rows_in}

@@ -1,6 +1,7 @@
 -- No refusal is answered with 0, the number of acceptance.
 -- Relies on image's numbers of the refusals.
-use Rattle.image.specs.Prelude.{◌≤◌, arith}
+use Rattle.std.specs.Prelude.{◌≤◌}
+use Rattle.image.specs.Prelude.{arith}
 use Rattle.image.specs.declared.Refusal.{Refusal}
 use Rattle.image.specs.Answers.{refusal_number}
 

@@ -1,5 +1,6 @@
 -- Tables whose keys strictly rise: every change keeps that, and two such tables that hold the same are equal.
-use Rattle.image.specs.Prelude.{ℕ, ◌≡◌, refl, sym, ap₂, ◌∙◌, List, [], ◌∷◌, Bool, true, false, ◌&&◌, none, Option·some-injective, Option·none-ne-some, cases}
+use Rattle.std.specs.Prelude.{ℕ, ◌≡◌, refl, List, [], ◌∷◌, Bool, true, false, ◌&&◌}
+use Rattle.image.specs.Prelude.{sym, ap₂, ◌∙◌, none, Option·some-injective, Option·none-ne-some, cases}
 use Rattle.image.specs.Bytes.{same, before}
 use Rattle.image.specs.Path.{below}
 use Rattle.image.specs.Table.{Row, find, with_row, without, without_below, leads, rising}

@@ -1,5 +1,6 @@
 -- The table of a sound tree strictly rises: so it is one list for one map.
-use Rattle.image.specs.Prelude.{ℕ, ◌≡◌, refl, sym, ◌∙◌, List, [], ◌∷◌, ◌++◌, Bool, true, false, ◌&&◌, not, none, Option·none-ne-some, cases}
+use Rattle.std.specs.Prelude.{ℕ, ◌≡◌, refl, List, [], ◌∷◌, ◌++◌, Bool, true, false, ◌&&◌, not}
+use Rattle.image.specs.Prelude.{sym, ◌∙◌, none, Option·none-ne-some, cases}
 use Rattle.image.specs.Bytes.{same, before, shared}
 use Rattle.image.specs.Path.{owns, well_formed}
 use Rattle.image.specs.Entry.{Message, puts, drops, clears}

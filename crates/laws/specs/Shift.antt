@@ -1,6 +1,7 @@
 -- A tree under other bytes: with `prefix` in front of both pivots, its table has `prefix` in front of each path. (A pointer swing from `prefix` to
 -- `another`.)
-use Rattle.image.specs.Prelude.{ℕ, ◌≡◌, refl, ap, ap₂, ◌∙◌, List, [], ◌∷◌, ◌++◌, append_assoc, Bool, true, false, cond, length, drop, length-append, drop-append-add, cases}
+use Rattle.std.specs.Prelude.{ℕ, ◌≡◌, refl, List, [], ◌∷◌, ◌++◌, Bool, true, false, cond, length, drop}
+use Rattle.image.specs.Prelude.{ap, ap₂, ◌∙◌, append_assoc, length-append, drop-append-add, cases}
 use Rattle.image.specs.Bytes.{same, before, begins, shared}
 use Rattle.image.specs.Path.{below, owns}
 use Rattle.image.specs.Entry.{Message, puts, drops, clears}

@@ -1,5 +1,6 @@
 -- Laws of a table: what is found after each change of it.
-use Rattle.image.specs.Prelude.{length, ℕ, suc, ◌+◌, ◌≤◌, ◌≡◌, refl, sym, ap, ◌∙◌, List, [], ◌∷◌, ◌++◌, Bool, true, false, cond, none, some, Option·none-ne-some, arith, cases}
+use Rattle.std.specs.Prelude.{length, ℕ, suc, ◌+◌, ◌≤◌, ◌≡◌, refl, List, [], ◌∷◌, ◌++◌, Bool, true, false, cond}
+use Rattle.image.specs.Prelude.{sym, ap, ◌∙◌, none, some, Option·none-ne-some, arith, cases}
 use Rattle.image.specs.Bytes.{same, before, begins}
 use Rattle.image.specs.Path.{below}
 use Rattle.image.specs.Table.{Row, find, with_row, without, rows_below, without_below, put_all, under_prefix, every_key}

@@ -1,5 +1,6 @@
 -- Every value of a sound tree's table fits: so what a lookup finds fits a buffer of that size.
-use Rattle.image.specs.Prelude.{ℕ, ◌≤◌, ◌≡◌, refl, sym, ap, ◌∙◌, List, [], ◌∷◌, ◌++◌, Bool, true, false, ◌&&◌, some, arith, length, leb, leb-true, cases}
+use Rattle.std.specs.Prelude.{ℕ, ◌≤◌, ◌≡◌, refl, List, [], ◌∷◌, ◌++◌, Bool, true, false, ◌&&◌, length, leb}
+use Rattle.image.specs.Prelude.{sym, ap, ◌∙◌, some, arith, leb-true, cases}
 use Rattle.image.specs.Bytes.{same, before, shared}
 use Rattle.image.specs.Path.{well_formed, below, owns, value_limit, value_fits}
 use Rattle.image.specs.Entry.{Message, puts, drops, clears}

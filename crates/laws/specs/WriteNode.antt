@@ -1,5 +1,6 @@
 -- One node of an image written anew.
-use Rattle.image.specs.Prelude.{ℕ, ◌+◌, ◌*◌, ◌-◌, ◌/◌, ◌≤◌, ◌<◌, ◌≡◌, sym, ap, ◌∙◌, List, ◌++◌, append_assoc, arith, ltb, ltb-true, ltb-false, length, take, drop, length-append, length-drop, take-append-drop, take-append-le, drop-append-le, take_at, drop_at, drop-append-add, length-take-le, mul-div-le, lt_of_le_of_ne, cases}
+use Rattle.std.specs.Prelude.{ℕ, ◌+◌, ◌*◌, ◌-◌, ◌/◌, ◌≤◌, ◌<◌, ◌≡◌, List, ◌++◌, ltb, length, take, drop}
+use Rattle.image.specs.Prelude.{sym, ap, ◌∙◌, append_assoc, arith, ltb-true, ltb-false, length-append, length-drop, take-append-drop, take-append-le, drop-append-le, take_at, drop_at, drop-append-add, length-take-le, mul-div-le, lt_of_le_of_ne, cases}
 use Rattle.image.specs.Image.{node_bytes, nodes_of}
 
 unfoldable pub write_node : List ℕ → ℕ → List ℕ → List ℕ

@@ -1,6 +1,7 @@
 -- For a caller of a step: the questions that it asks, and what is known of the place after it.
 -- Relies on: the list of next's questions, successor's law of the path that next finds.
-use Rattle.image.specs.Prelude.{ℕ, ◌≤◌, ◌<◌, ◌≡◌, refl, sym, ap, ap₂, ◌∙◌, List, [], ◌∷◌, Bool, true, false, ◌&&◌, false≢true, arith, length, take, leb, leb-true, leb-false}
+use Rattle.std.specs.Prelude.{ℕ, ◌≤◌, ◌<◌, ◌≡◌, refl, List, [], ◌∷◌, Bool, true, false, ◌&&◌, length, take, leb}
+use Rattle.image.specs.Prelude.{sym, ap, ap₂, ◌∙◌, false≢true, arith, leb-true, leb-false}
 use Rattle.image.specs.Bytes.{same}
 use Rattle.image.specs.Path.{well_formed, path_or_empty, reads_on, letter}
 use Rattle.image.specs.Table.{is_some, least_after}

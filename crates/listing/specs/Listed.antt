@@ -1,5 +1,5 @@
 -- A whole listing: accepted steps one after the other on one store, with the paths that they give. Relies on: the contract of a step.
-use Rattle.image.specs.Prelude.{ℕ, List, [], ◌∷◌}
+use Rattle.std.specs.Prelude.{ℕ, List, [], ◌∷◌}
 use Rattle.image.specs.Table.{Row}
 use Rattle.image.specs.declared.Listing.{Listing}
 use Rattle.image.specs.Listing.{last_path, Steps}

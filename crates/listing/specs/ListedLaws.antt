@@ -1,6 +1,7 @@
 -- A listing that steps until 8 has given every path below, each once, rising: the table's rows below the path, in the table's order; and below the
 -- empty path all of them. Relies on: the table of a sound image rises, its paths are well formed (laws/Formed); the questions of a step.
-use Rattle.image.specs.Prelude.{ℕ, ◌≡◌, refl, sym, ap, ap₂, ◌∙◌, List, [], ◌∷◌, ◌++◌, append-nil, Bool, true, false, false≢true, Option, none, some, arith}
+use Rattle.std.specs.Prelude.{ℕ, ◌≡◌, refl, List, [], ◌∷◌, ◌++◌, Bool, true, false}
+use Rattle.image.specs.Prelude.{sym, ap, ap₂, ◌∙◌, append-nil, false≢true, Option, none, some, arith}
 use Rattle.image.specs.Bytes.{before, begins}
 use Rattle.image.specs.Path.{below as isBelow}
 use Rattle.image.specs.Table.{Row, is_some, rows_below, rows_after, first_key, least_after, leads, rising}

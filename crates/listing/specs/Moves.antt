@@ -1,6 +1,7 @@
 -- What an answer of next says of a step: an accepted one moves the place on, a refused one leaves it. One law for each.
 -- Relies on: what a contract tells at once (demands), query's laws of its questions and of a filled buffer, successor's of the path that next finds.
-use Rattle.image.specs.Prelude.{ℕ, zero, suc, ◌-◌, ◌≤◌, ◌<◌, ◌≡◌, refl, sym, ap, subst, ◌∙◌, List, [], ◌∷◌, some, arith, length, take, drop, le-leb, lt-leb}
+use Rattle.std.specs.Prelude.{ℕ, zero, suc, ◌-◌, ◌≤◌, ◌<◌, ◌≡◌, refl, List, [], ◌∷◌, length, take, drop}
+use Rattle.image.specs.Prelude.{sym, ap, subst, ◌∙◌, some, arith, le-leb, lt-leb}
 use Rattle.image.specs.Bytes.{before}
 use Rattle.image.specs.Table.{Row, least_after}
 use Rattle.image.specs.Sound.{table_of}
@@ -10,7 +11,7 @@ use Rattle.image.specs.Answers.{refusal_number, outcome_number, found_answer}
 use Rattle.image.specs.declared.Refusal.{Refusal}
 use Rattle.image.specs.declared.Outcome.{Outcome}
 use Rattle.image.specs.declared.Found.{Found}
-use Rattle.demands.specs.Contracts.{number_is, Answered, query-answered}
+use Rattle.demands.specs.Consequences.{number_is, Answered, query-answered}
 use Rattle.query.specs.Asked.{number-by-length}
 use Rattle.query.specs.Front.{Front, front-filled}
 use Rattle.successor.specs.Present.{Next, next-found}

@@ -1,6 +1,9 @@
 // The listing: a place, the last path given, that is lent to each step and moved on by it. A thin layer over query's next, whose questions
 // and answers are the step's own. Relies on: query.
-ghost use Rattle.image.specs.Prelude.{◌≡◌, []};
+
+#![tactic(auto)]
+
+ghost use Rattle.std.specs.Prelude.{◌≡◌, []};
 ghost use Rattle.image.specs.Calls.{asks, next};
 ghost use Rattle.image.specs.Contract.{Meets};
 ghost use Rattle.image.specs.Answers.{found_answer, outcome_number};
@@ -9,7 +12,7 @@ ghost use Rattle.image.specs.Listing.{last_path, Steps};
 use image::{Found, Listing, Outcome};
 
 // What a step answers, with the place after it.
-#[derive(Drop)]
+#[derive(Clone, Copy)]
 pub struct Advanced {
     pub outcome: Outcome,
     pub place: Listing,

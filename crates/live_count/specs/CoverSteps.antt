@@ -1,6 +1,7 @@
 -- Past one entry that is not on a rest, to the entries behind it: what the readers of `none_covers` promise, and the laws of each way out.
 -- Relies on Next of node's Places (an entry in front of the others), on none_covers of specs/Notes and on NotedSteps.
-use Rattle.image.specs.Prelude.{ℕ, ◌+◌, ◌-◌, ◌<◌, ◌≤◌, ◌≡◌, refl, sym, ap, ◌∙◌, List, [], Bool, true, false, arith, length}
+use Rattle.std.specs.Prelude.{ℕ, ◌+◌, ◌-◌, ◌<◌, ◌≤◌, ◌≡◌, refl, List, [], Bool, true, false, length}
+use Rattle.image.specs.Prelude.{sym, ap, ◌∙◌, arith}
 use Rattle.image.specs.Bytes.{u16, same}
 use Rattle.image.specs.Entry as defined
 use Rattle.image.specs.Meaning.{says_of}

@@ -1,6 +1,7 @@
 -- The rows that pass a test, of a table that messages have changed: a put comes in if its path passes, and of the other rows those stay that
 -- no message says anything of. Relies on the laws of tables (laws: Tables, Rising, RowsRising, LookupTable, Filter).
-use Rattle.image.specs.Prelude.{ℕ, suc, ◌≡◌, refl, sym, ap, ap₂, ◌∙◌, List, [], ◌∷◌, ◌++◌, Bool, true, false, ◌&&◌, not, cond, true≢false, and-true, Option, none, some, arith, length, drop}
+use Rattle.std.specs.Prelude.{ℕ, suc, ◌≡◌, refl, List, [], ◌∷◌, ◌++◌, Bool, true, false, ◌&&◌, not, cond, length, drop}
+use Rattle.image.specs.Prelude.{sym, ap, ap₂, ◌∙◌, true≢false, and-true, Option, none, some, arith}
 use Rattle.image.specs.Bytes.{same, before, begins, shared}
 use Rattle.image.specs.Path.{owns, below}
 use Rattle.image.specs.Entry.{Message, puts, drops, clears}

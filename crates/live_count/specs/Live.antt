@@ -1,6 +1,6 @@
 -- The number of paths present under a node, told entry by entry: an entry counts when it decides its path, that is when no newer message of
 -- its own node and no message of a node above says anything of that path. Definitions only; LiveLaws shows that this is the length of the table.
-use Rattle.image.specs.Prelude.{ℕ, ◌+◌, ◌<◌, ◌≡◌, List, [], ◌∷◌, ◌++◌, Bool, true, false, ◌&&◌, length, drop, leb}
+use Rattle.std.specs.Prelude.{ℕ, ◌+◌, ◌<◌, ◌≡◌, List, [], ◌∷◌, ◌++◌, Bool, true, false, ◌&&◌, length, drop, leb}
 use Rattle.image.specs.Bytes.{shared}
 use Rattle.image.specs.Path.{path_limit}
 use Rattle.image.specs.Entry.{Message, puts, drops, clears}

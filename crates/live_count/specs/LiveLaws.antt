@@ -1,6 +1,7 @@
 -- The entries that decide a path are as many as the rows of a sound tree's table.
 -- Relies on the laws of tables and of sound trees (laws: RowsRising, LookupTable, Filter, Reading's Seek and SeekHere) and on KeepLaws.
-use Rattle.image.specs.Prelude.{ℕ, ◌+◌, ◌<◌, ◌≡◌, refl, sym, ap, ◌∙◌, List, [], ◌∷◌, ◌++◌, Bool, true, false, ◌&&◌, cond, Option, none, some, arith, length, drop, length-append, drop-append_seam, drop-append-add}
+use Rattle.std.specs.Prelude.{ℕ, ◌+◌, ◌<◌, ◌≡◌, refl, List, [], ◌∷◌, ◌++◌, Bool, true, false, ◌&&◌, cond, length, drop}
+use Rattle.image.specs.Prelude.{sym, ap, ◌∙◌, Option, none, some, arith, length-append, drop-append_seam, drop-append-add}
 use Rattle.image.specs.Bytes.{begins, shared}
 use Rattle.image.specs.Path.{well_formed, owns}
 use Rattle.image.specs.Entry.{Message, puts, drops, clears}

@@ -1,6 +1,7 @@
 -- Step lemmas of the walk's two functions that call each other: what each exit owes, and what each call asks.
 -- Relies on WalkLaws and on the definitions of Walk.
-use Rattle.image.specs.Prelude.{ℕ, ◌+◌, ◌-◌, ◌<◌, ◌≤◌, ◌≡◌, refl, sym, ap, ap₂, ◌∙◌, List, [], ◌∷◌, ◌++◌, Bool, true, ◌&&◌, arith, length, take, drop}
+use Rattle.std.specs.Prelude.{ℕ, ◌+◌, ◌-◌, ◌<◌, ◌≤◌, ◌≡◌, refl, List, [], ◌∷◌, ◌++◌, Bool, true, ◌&&◌, length, take, drop}
+use Rattle.image.specs.Prelude.{sym, ap, ap₂, ◌∙◌, arith}
 use Rattle.image.specs.Bytes.{shared}
 use Rattle.image.specs.Image.{Tree, Branch, nodes_of, forest_of, tree_at}
 use Rattle.octets.specs.Cap.{cap, cap-small, cap-add}

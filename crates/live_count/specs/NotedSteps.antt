@@ -1,6 +1,7 @@
 -- Step lemmas of the count by notes that are handed down, and that the tree stays sound on the way down.
 -- Relies on the definitions of Noted, on the contracts of notes, and on the laws of sound trees (laws: LookupTable, Filter, Reading's Relative).
-use Rattle.image.specs.Prelude.{ℕ, zero, suc, ◌+◌, ◌-◌, ◌<◌, ◌≤◌, ◌≡◌, refl, sym, ap, ap₂, ◌∙◌, List, [], ◌∷◌, ◌++◌, append_assoc, Bool, true, false, ◌&&◌, not, true≢false, false≢true, and-true, Option, none, some, arith, length, take, drop, get_or, length-append, drop-append-le, drop_at}
+use Rattle.std.specs.Prelude.{ℕ, zero, suc, ◌+◌, ◌-◌, ◌<◌, ◌≤◌, ◌≡◌, refl, List, [], ◌∷◌, ◌++◌, Bool, true, false, ◌&&◌, not, length, take, drop, get_or}
+use Rattle.image.specs.Prelude.{sym, ap, ap₂, ◌∙◌, append_assoc, true≢false, false≢true, and-true, Option, none, some, arith, length-append, drop-append-le, drop_at}
 use Rattle.image.specs.Bytes.{shared}
 use Rattle.image.specs.Path.{well_formed, owns}
 use Rattle.image.specs.Entry as defined
@@ -13,7 +14,7 @@ use Rattle.octets.specs.Order.{and_left, and_right, before-append, shared-append
 use Rattle.laws.specs.Rising.{both}
 use Rattle.laws.specs.LookupTable.{parts, inner, inside-not, not_low, high-under}
 use Rattle.laws.specs.Filter.{leaf-rowed}
-use Rattle.laws.specs.Reading.Relative.{lifts, usable}
+use Rattle.laws.specs.Reading.Relative.{usable}
 use Rattle.node.specs.Cut.{cut, cut-drop}
 use Rattle.node.specs.Places.{part, cursor_of}
 use Rattle.node.specs.Entries.{listed}

@@ -1,5 +1,5 @@
 -- The bytes that a path buffer holds.
-use Rattle.image.specs.Prelude.{ℕ, List, take}
+use Rattle.std.specs.Prelude.{ℕ, List, take}
 use Rattle.node.specs.declared.PathBuffer.{PathBuffer}
 
 unfoldable pub path_in : PathBuffer → List ℕ

@@ -1,5 +1,6 @@
 -- The steps of the copy into a path buffer.
-use Rattle.image.specs.Prelude.{ℕ, ◌+◌, ◌<◌, ◌≤◌, ◌≡◌, sym, ap, ◌∙◌, List, ◌++◌, arith, length, take, set, get_or, paste, paste-suc, take-paste, take-length, length-take-le, add-one}
+use Rattle.std.specs.Prelude.{ℕ, ◌+◌, ◌<◌, ◌≤◌, ◌≡◌, List, ◌++◌, length, take, set, get_or}
+use Rattle.image.specs.Prelude.{sym, ap, ◌∙◌, arith, paste, paste-suc, take-paste, take-length, length-take-le, add-one}
 use Rattle.node.specs.declared.PathBuffer.{PathBuffer}
 use Rattle.live_count.specs.PathBuffers.{path_in}
 

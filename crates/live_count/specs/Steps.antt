@@ -1,6 +1,7 @@
 -- Step lemmas of the functions that look at one entry: what each exit of the code owes, over plain lists and numbers.
 -- Relies on the definitions of Walk and on the contracts of node and its search.
-use Rattle.image.specs.Prelude.{ℕ, zero, suc, ◌+◌, ◌-◌, ◌<◌, ◌≤◌, ◌≡◌, refl, sym, ap, ◌∙◌, List, [], ◌∷◌, ◌++◌, Bool, true, false, ◌&&◌, not, true≢false, and-true, arith, length, take, drop, get_or, set, length-append, get_or-set_same, get_or-set_other, leb, le-leb, lt-leb, leb-true, leb-false, not-true, not-false, add-one}
+use Rattle.std.specs.Prelude.{ℕ, zero, suc, ◌+◌, ◌-◌, ◌<◌, ◌≤◌, ◌≡◌, refl, List, [], ◌∷◌, ◌++◌, Bool, true, false, ◌&&◌, not, length, take, drop, get_or, set, leb}
+use Rattle.image.specs.Prelude.{sym, ap, ◌∙◌, true≢false, and-true, arith, length-append, get_or-set_same, get_or-set_other, le-leb, lt-leb, leb-true, leb-false, not-true, not-false, add-one}
 use Rattle.image.specs.Entry as defined
 use Rattle.octets.specs.Order.{and-false}
 use Rattle.node.specs.Places.{part, entry_in, message_in, cursor_of}

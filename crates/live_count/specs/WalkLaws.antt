@@ -1,10 +1,11 @@
 -- What the walk counts at a node, and over its children, is what Live defines of the tree under the node.
 -- Relies on the laws that join the bytes of a node to its tree (lookup: Look) and on octets' laws of capped sums (Cap).
-use Rattle.image.specs.Prelude.{ℕ, ◌+◌, ◌-◌, ◌≤◌, ◌≡◌, refl, sym, ap, ap₂, ◌∙◌, List, [], ◌∷◌, ◌++◌, Bool, true, false, ◌&&◌, and_comm, Option, none, some, arith, length, drop}
+use Rattle.std.specs.Prelude.{ℕ, ◌+◌, ◌-◌, ◌≤◌, ◌≡◌, refl, List, [], ◌∷◌, ◌++◌, Bool, true, false, ◌&&◌, length, drop}
+use Rattle.image.specs.Prelude.{sym, ap, ap₂, ◌∙◌, and_comm, Option, none, some, arith}
 use Rattle.image.specs.Bytes.{shared}
 use Rattle.image.specs.Entry as defined
 use Rattle.image.specs.Table.{Row}
-use Rattle.image.specs.Image.{Tree, leaf, interior, Forest, tree, Branch, Inside, nodes_of, pair_then, pairs_of, message_then, messages_of, no_branches, branch_then, inside_of, forest_of, tree_at}
+use Rattle.image.specs.Image.{Tree, leaf, interior, Forest, Branch, Inside, nodes_of, pair_then, pairs_of, message_then, messages_of, no_branches, branch_then, inside_of, forest_of, tree_at}
 use Rattle.image.specs.Meaning.{newest, high_of}
 use Rattle.octets.specs.Cap.{cap, cap-add, cap-front}
 use Rattle.laws.specs.Reading.Relative.{lifts, usable}

@@ -1,11 +1,14 @@
 // The number of paths present in an image that may have waiting messages, counted in one walk over its nodes: each entry that decides its path counts
 // once. How a walk comes to a node (arrive) and to its children (enter) serves the dump too. Relies on the readers of nodes (node) and on octets;
 // specs/Live says what is counted, specs/Walk what is asked of a node.
+
+#![tactic(auto)]
+
 pub mod notes;
 pub mod path_buffer;
 pub mod visibility;
 
-ghost use Rattle.image.specs.Prelude.{◌≡◌, ◌++◌, ◌∷◌, ◌+◌, ◌<◌, ◌≤◌, length, drop};
+ghost use Rattle.std.specs.Prelude.{◌≡◌, ◌++◌, ◌∷◌, ◌+◌, ◌<◌, ◌≤◌, length, drop};
 ghost use Rattle.image.specs.Bytes.{shared};
 ghost use Rattle.image.specs.Image.{tree_at, forest_of};
 ghost use Rattle.image.specs.Sound.{table_of};
@@ -27,7 +30,7 @@ use visibility::Trail;
 
 // Where a walk stands: what all paths there begin with, the nodes above that hold messages, and how many notes tell what these say. More
 // than 64 notes tell nothing.
-#[derive(Drop)]
+#[derive(Clone, Copy)]
 pub struct Position {
     pub prefix: PathBuffer,
     pub trail: Trail,
@@ -35,7 +38,7 @@ pub struct Position {
 }
 
 // A node that a walk comes to, by its number and level, and where the walk stands above it: at what its parent lifts.
-#[derive(Drop)]
+#[derive(Clone, Copy)]
 pub struct Visit {
     pub num: usize,
     pub level: usize,
@@ -44,7 +47,7 @@ pub struct Visit {
 
 // A walk's arrival at a node: whether what the node lifts is too long for any path, how many bytes it lifts of its pivots, and where the walk
 // stands then.
-#[derive(Drop)]
+#[derive(Clone, Copy)]
 pub struct Arrival {
     pub far: bool,
     pub lifted: usize,

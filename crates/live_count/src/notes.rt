@@ -1,7 +1,7 @@
 // The messages above a node that can be on one of its keys, as notes: a node's are made of its parent's and of the parent's own messages, and each
 // pair of a leaf is held against the leaf's alone. A note is a number: where the suffix begins past what the leaf lifts, whether the message clears,
 // and how long what is left of it is. Relies on node (the cursor) and on octets.
-ghost use Rattle.image.specs.Prelude.{◌≡◌, not, ◌++◌, ◌+◌, ◌*◌, ◌/◌, ◌%◌, ◌<◌, ◌≤◌, length};
+ghost use Rattle.std.specs.Prelude.{◌≡◌, not, ◌++◌, ◌+◌, ◌*◌, ◌/◌, ◌%◌, ◌<◌, ◌≤◌, length};
 ghost use Rattle.node.specs.Cut.{cut};
 ghost use Rattle.node.specs.Places.{EntryWithin, MessageWithin, entry_in, message_in};
 ghost use Rattle.node.specs.Entries.{listed};
@@ -10,7 +10,7 @@ ghost use Rattle.live_count.specs.Notes.Notes.{note_covers, quiet, NotesFit, Mis
 use node::{Cursor, Entry, Message, PairStep, Step};
 
 // What a message is to the keys of a leaf: it is on none of them; or where it is told by a note; or it has no note.
-#[derive(Drop)]
+#[derive(Clone, Copy)]
 pub enum Concern {
     Nothing,
     Note(usize),

@@ -1,6 +1,6 @@
 // The beginning of paths that a node lifts, in a buffer that is passed by value. A path is at most 64 bytes, and so is what the buffer holds: a
 // caller sees that there is room before it extends. Relies on node's PathBuffer.
-ghost use Rattle.image.specs.Prelude.{◌≡◌, ◌++◌, ◌+◌, ◌≤◌, length};
+ghost use Rattle.std.specs.Prelude.{◌≡◌, ◌++◌, ◌+◌, ◌≤◌, length};
 ghost use Rattle.live_count.specs.PathBuffers.{path_in};
 
 use node::PathBuffer;

@@ -1,6 +1,6 @@
 // Which paths the messages of the nodes above leave visible, and which entries decide their path: no later entry of the node and no node of the
 // trail says anything of it. Relies on the readers of nodes (node) and on octets; specs/Walk says what passes a trail and what decides.
-ghost use Rattle.image.specs.Prelude.{◌≡◌, ◌++◌, ◌+◌, ◌<◌, ◌≤◌, length};
+ghost use Rattle.std.specs.Prelude.{◌≡◌, ◌++◌, ◌+◌, ◌<◌, ◌≤◌, length};
 ghost use Rattle.image.specs.Entry.{message};
 ghost use Rattle.node.specs.Places.{EntryWithin, MessageWithin, entry_in, message_in};
 ghost use Rattle.node.specs.Entries.{listed};
@@ -16,7 +16,7 @@ use crate::path_buffer;
 use node::{Cursor, Entry, Message, PathBuffer, Split, Step};
 
 // The nodes above that hold messages, from the root down: each with how many bytes it lifts.
-#[derive(Drop)]
+#[derive(Clone, Copy)]
 pub struct Trail {
     pub nodes: [usize; 8],
     pub lifts: [usize; 8],

@@ -1,10 +1,11 @@
 -- What the readers of a node find there is what the tree under it answers.
-use Rattle.image.specs.Prelude.{ℕ, zero, suc, ◌+◌, ◌-◌, ◌*◌, ◌/◌, ◌<◌, ◌≤◌, ◌≡◌, refl, sym, ap, ap₂, subst, ◌∙◌, List, [], ◌∷◌, ◌++◌, Bool, true, false, false≢true, Option, none, some, arith, length, take, drop, length-append, length-drop, take_all, ltb, ltb-true, leb-true, mul-div-le}
+use Rattle.std.specs.Prelude.{ℕ, zero, suc, ◌+◌, ◌-◌, ◌*◌, ◌/◌, ◌<◌, ◌≤◌, ◌≡◌, refl, List, [], ◌∷◌, ◌++◌, Bool, true, false, length, take, drop, ltb}
+use Rattle.image.specs.Prelude.{sym, ap, ap₂, subst, ◌∙◌, false≢true, Option, none, some, arith, length-append, length-drop, take_all, ltb-true, leb-true, mul-div-le}
 use Rattle.image.specs.Bytes.{u16, shared}
 use Rattle.image.specs.Path.{owns}
 use Rattle.image.specs.Entry as defined
 use Rattle.image.specs.Table.{Row, find}
-use Rattle.image.specs.Image.{Tree, unread, leaf, interior, Forest, tree, Branch, Inside, node_bytes, nodes_of, laid_out, entry_bytes, node_entries, pair_then, pairs_of, message_then, messages_of, no_branches, branch_then, inside_of, or_none, forest_of, leaf_of, interior_of, tree_at}
+use Rattle.image.specs.Image.{Tree, unread, leaf, interior, Forest, Branch, Inside, node_bytes, nodes_of, laid_out, entry_bytes, node_entries, pair_then, pairs_of, message_then, messages_of, no_branches, branch_then, inside_of, or_none, forest_of, leaf_of, interior_of, tree_at}
 use Rattle.image.specs.Meaning.{Said, nothing, says, newest, decide}
 use Rattle.octets.specs.Order.{and_left, and_right}
 use Rattle.laws.specs.LookupTable.{split}

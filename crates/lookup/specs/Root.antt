@@ -1,5 +1,6 @@
 -- The lookup from the root of a sound image.
-use Rattle.image.specs.Prelude.{lt-ltb, ℕ, ◌+◌, ◌*◌, ◌<◌, ◌≤◌, ◌≡◌, refl, sym, ap, ap₂, ◌∙◌, List, [], true, arith, length, ltb}
+use Rattle.std.specs.Prelude.{ℕ, ◌+◌, ◌*◌, ◌<◌, ◌≤◌, ◌≡◌, refl, List, [], true, length, ltb}
+use Rattle.image.specs.Prelude.{lt-ltb, sym, ap, ap₂, ◌∙◌, arith}
 use Rattle.image.specs.Bytes.{u16, shared}
 use Rattle.image.specs.Image.{Tree, node_bytes, nodes_of, header, header_of, tree_at, tree_of}
 use Rattle.image.specs.Meaning.{lookup}

@@ -1,6 +1,9 @@
 // The value of a path, looked up one level at a time: a node's newest message on it decides, else the child that owns it answers for the rest.
 // Relies on node's search and on octets; the caller knows that the store is sound.
-ghost use Rattle.image.specs.Prelude.{◌≡◌, true, length};
+
+#![tactic(auto)]
+
+ghost use Rattle.std.specs.Prelude.{◌≡◌, true, length};
 ghost use Rattle.image.specs.Image.{tree_at, nodes_of};
 ghost use Rattle.image.specs.Sound.{sound, value_in};
 ghost use Rattle.laws.specs.Reading.Relative.{usable, from_here};

@@ -1,6 +1,7 @@
 -- Question 6 by the bytes: a number is that of a reachable interior node exactly where it is marked and its node's kind is 2.
 -- Relies on laws/Upkeep's Bridge (a reachable node is found by its number) and on the layout that `tree_at` asks for.
-use Rattle.image.specs.Prelude.{ℕ, zero, suc, ◌+◌, ◌*◌, ◌-◌, ◌/◌, ◌<◌, ◌≤◌, ◌≡◌, refl, sym, ap, ◌∙◌, List, [], ◌∷◌, ◌++◌, Bool, true, false, ◌&&◌, not, cond, false≢true, Option, none, some, arith, length, get_or, leb, eqb, eqb-true}
+use Rattle.std.specs.Prelude.{ℕ, zero, suc, ◌+◌, ◌*◌, ◌-◌, ◌/◌, ◌<◌, ◌≤◌, ◌≡◌, refl, List, [], ◌∷◌, ◌++◌, Bool, true, false, ◌&&◌, not, cond, length, get_or, leb, eqb}
+use Rattle.image.specs.Prelude.{sym, ap, ◌∙◌, false≢true, Option, none, some, arith, eqb-true}
 use Rattle.image.specs.Bytes.{u16, shared}
 use Rattle.image.specs.Entry.{Entry}
 use Rattle.image.specs.Table.{Row}

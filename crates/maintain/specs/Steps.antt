@@ -1,6 +1,7 @@
 -- The steps of settle, tidy, flush and heal: one law for each way out of the code.
 -- Relies on questions (Passed), and on questions' Callers (the contract from what was done).
-use Rattle.image.specs.Prelude.{ℕ, suc, ◌*◌, ◌/◌, ◌≤◌, ◌≡◌, refl, sym, ap, subst, ◌∙◌, List, [], ◌∷◌, ◌++◌, Bool, true, false, ◌&&◌, ◌||◌, not, cond, false≢true, true≢false, Option, none, some, length, drop, arith, leb, eqb, eqb-true}
+use Rattle.std.specs.Prelude.{ℕ, suc, ◌*◌, ◌/◌, ◌≤◌, ◌≡◌, refl, List, [], ◌∷◌, ◌++◌, Bool, true, false, ◌&&◌, ◌||◌, not, cond, length, drop, leb, eqb}
+use Rattle.image.specs.Prelude.{sym, ap, subst, ◌∙◌, false≢true, true≢false, Option, none, some, arith, eqb-true}
 use Rattle.image.specs.Entry.{Message}
 use Rattle.image.specs.Image.{nodes_of, whole_nodes}
 use Rattle.image.specs.Sound.{sound, table_of}

@@ -1,6 +1,6 @@
 -- What the parts of the upkeep calls leave of a store that passed questions 1 and 2.
 -- Relies on the paper's definitions and on what a rebuild promises. Definitions only.
-use Rattle.image.specs.Prelude.{ℕ, ◌≡◌, List, Bool, true, false, length}
+use Rattle.std.specs.Prelude.{ℕ, ◌≡◌, List, Bool, true, false, length}
 use Rattle.image.specs.Image.{nodes_of}
 use Rattle.image.specs.Sound.{sound, table_of}
 use Rattle.image.specs.Upkeep.{reachable_nodes, reachable_at}

@@ -1,7 +1,10 @@
 // settle, tidy, flush and heal: each asks the paper's questions in order; a refusal changes no byte, and an accepted call leaves the first 128 bytes
 // for each node of the work area zero. settle_fit, tidy_fit, flush_fit and heal_fit are the parts after questions 1 and 2. Relies on questions (1 and
 // 2), node (question 6), rebuild (the same map in packed form, with no message), push (a flush), merge (a heal) and packed (the area zeroed).
-ghost use Rattle.image.specs.Prelude.{◌≡◌, true, length};
+
+#![tactic(auto)]
+
+ghost use Rattle.std.specs.Prelude.{◌≡◌, true, length};
 ghost use Rattle.image.specs.Image.{whole_nodes};
 ghost use Rattle.image.specs.Sound.{sound};
 ghost use Rattle.image.specs.Upkeep.{reachable_nodes, reachable_at, settled};

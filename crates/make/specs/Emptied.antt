@@ -1,6 +1,7 @@
 -- A store with node 0 and an empty leaf written over its bytes is sound and means the empty map, whatever the nodes from 2 on hold: they are free.
 -- Relies on laws: Page (node 0 and an empty leaf read back), WriteNode (one node written).
-use Rattle.image.specs.Prelude.{ℕ, ◌/◌, ◌≤◌, ◌≡◌, refl, ap, ◌∙◌, List, [], true, arith, length, lt-ltb, le-leb, eq-eqb}
+use Rattle.std.specs.Prelude.{ℕ, ◌/◌, ◌≤◌, ◌≡◌, refl, List, [], true, length}
+use Rattle.image.specs.Prelude.{ap, ◌∙◌, arith, lt-ltb, le-leb, eq-eqb}
 use Rattle.image.specs.Bytes.{shared}
 use Rattle.image.specs.Entry.{read_all, entries_of}
 use Rattle.image.specs.Table.{every_key, under_prefix, rising}

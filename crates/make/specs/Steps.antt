@@ -1,5 +1,6 @@
 -- What make and its writer leave: the writer's two nodes, and make's two ways out, meet their contracts. Relies on Emptied.
-use Rattle.image.specs.Prelude.{ℕ, suc, ◌/◌, ◌≡◌, refl, sym, ap, subst, ◌∙◌, List, [], Bool, true, false, arith, length}
+use Rattle.std.specs.Prelude.{ℕ, suc, ◌/◌, ◌≡◌, refl, List, [], Bool, true, false, length}
+use Rattle.image.specs.Prelude.{sym, ap, subst, ◌∙◌, arith}
 use Rattle.image.specs.Image.{whole_nodes}
 use Rattle.image.specs.Calls.{first_no}
 use Rattle.image.specs.Contract.{make_no, Made, MakeMeets}

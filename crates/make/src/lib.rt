@@ -1,6 +1,9 @@
 // make: an empty store, of node 0, one empty leaf as the root, and zeros, which is the packed form of the empty map; and the first two of these over
 // any store, which is how clear makes a store empty. Relies on node (question 1, the writer) and on octets (zeros).
-ghost use Rattle.image.specs.Prelude.{◌≡◌, true, length};
+
+#![tactic(auto)]
+
+ghost use Rattle.std.specs.Prelude.{◌≡◌, true, length};
 ghost use Rattle.image.specs.Image.{whole_nodes};
 ghost use Rattle.image.specs.Answers.{outcome_number};
 ghost use Rattle.image.specs.Contract.{MakeMeets};

@@ -1,5 +1,6 @@
 -- Step lemmas of the writers: one entry, entries one after the other, a node with the entries of two, a node without one child.
-use Rattle.image.specs.Prelude.{ℕ, ◌+◌, ◌-◌, ◌*◌, ◌<◌, ◌≤◌, ◌≡◌, refl, sym, ap, ap₂, ◌∙◌, List, [], ◌∷◌, ◌++◌, append-nil, Bool, true, false, cond, arith, length, take, drop, length-append, drop_of_length-le, ltb, eqb, ltb-true, ltb-false}
+use Rattle.std.specs.Prelude.{ℕ, ◌+◌, ◌-◌, ◌*◌, ◌<◌, ◌≤◌, ◌≡◌, refl, List, [], ◌∷◌, ◌++◌, Bool, true, false, cond, length, take, drop, ltb, eqb}
+use Rattle.image.specs.Prelude.{sym, ap, ap₂, ◌∙◌, append-nil, arith, length-append, drop_of_length-le, ltb-true, ltb-false}
 use Rattle.image.specs.Bytes.{u16, u16_bytes, shared}
 use Rattle.image.specs.Entry as defined
 use Rattle.octets.specs.Order.{and_left, and_right}

@@ -1,5 +1,6 @@
 -- Step lemmas of the joining: two neighbours, and the search for the first two that one node holds.
-use Rattle.image.specs.Prelude.{ℕ, ◌≤◌, ◌-◌, ◌≡◌, refl, sym, ap, ◌∙◌, List, [], ◌∷◌, Bool, true, false, not, cond, arith, length, take, drop}
+use Rattle.std.specs.Prelude.{ℕ, ◌≤◌, ◌-◌, ◌≡◌, refl, List, [], ◌∷◌, Bool, true, false, not, cond, length, take, drop}
+use Rattle.image.specs.Prelude.{sym, ap, ◌∙◌, arith}
 use Rattle.image.specs.Entry as defined
 use Rattle.image.specs.Image.{Branch}
 use Rattle.octets.specs.Order.{not-true}

@@ -1,6 +1,7 @@
 -- Step lemmas of the heal of a node: the copy of its page lists its entries, and the node's high pivot as it was found.
 -- Relies on Laws/Mended.
-use Rattle.image.specs.Prelude.{ℕ, ◌+◌, ◌*◌, ◌-◌, ◌≤◌, ◌<◌, ◌≡◌, refl, sym, ap, ap₂, subst, ◌∙◌, List, [], Bool, true, false, not, some, arith, length, take, drop}
+use Rattle.std.specs.Prelude.{ℕ, ◌+◌, ◌*◌, ◌-◌, ◌≤◌, ◌<◌, ◌≡◌, refl, List, [], Bool, true, false, not, length, take, drop}
+use Rattle.image.specs.Prelude.{sym, ap, ap₂, subst, ◌∙◌, some, arith}
 use Rattle.image.specs.Bytes.{u16}
 use Rattle.image.specs.Image.{nodes_of, tree_of, whole_nodes}
 use Rattle.image.specs.Sound.{sound, highest}

@@ -1,5 +1,5 @@
 -- What the writers of a node rely on: the copy of its page, whose entries may be written again. Definitions only.
-use Rattle.image.specs.Prelude.{ℕ, ◌+◌, ◌*◌, ◌<◌, ◌≤◌, ◌≡◌, List, true, length}
+use Rattle.std.specs.Prelude.{ℕ, ◌+◌, ◌*◌, ◌<◌, ◌≤◌, ◌≡◌, List, true, length}
 use Rattle.laws.specs.Encode.{bytes_of_all}
 use Rattle.node.specs.Entries.{listed}
 use Rattle.merge.specs.Laws.Joined.{small_entries}

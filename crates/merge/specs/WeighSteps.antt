@@ -1,5 +1,6 @@
 -- Step lemmas of the weighing: one entry, the entries of a node, two neighbours.
-use Rattle.image.specs.Prelude.{ℕ, ◌+◌, ◌-◌, ◌*◌, ◌<◌, ◌≤◌, ◌≡◌, refl, sym, ap, ap₂, ◌∙◌, List, [], ◌∷◌, Bool, true, false, ◌&&◌, cond, arith, length, length-drop, ltb, leb, lt-ltb, le-ltb, le-leb, lt-leb, ltb-false}
+use Rattle.std.specs.Prelude.{ℕ, ◌+◌, ◌-◌, ◌*◌, ◌<◌, ◌≤◌, ◌≡◌, refl, List, [], ◌∷◌, Bool, true, false, ◌&&◌, cond, length, ltb, leb}
+use Rattle.image.specs.Prelude.{sym, ap, ap₂, ◌∙◌, arith, length-drop, lt-ltb, le-ltb, le-leb, lt-leb, ltb-false}
 use Rattle.image.specs.Bytes.{u16, shared}
 use Rattle.image.specs.Entry as defined
 use Rattle.image.specs.Image.{nodes_of}

@@ -1,6 +1,6 @@
 // Entries written one after the other: with more bytes in front of each suffix, or all but one child.
 // Relies on push (a message's entry) and on node's writer; Laws/Joined says what is written.
-ghost use Rattle.image.specs.Prelude.{◌≡◌, ◌∷◌, [], true, ◌+◌, ◌≤◌, length};
+ghost use Rattle.std.specs.Prelude.{◌≡◌, ◌∷◌, [], true, ◌+◌, ◌≤◌, length};
 ghost use Rattle.laws.specs.Encode.{bytes_of, bytes_of_all};
 ghost use Rattle.octets.specs.Put.{put};
 ghost use Rattle.node.specs.Places.{EntryWithin, entry_in};

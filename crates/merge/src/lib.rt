@@ -1,10 +1,13 @@
 // Heal: two neighbouring children of a node that hold no message and fit in one node are joined, the first such two again and again until there are
 // none. Everything is told from inside the node: suffixes and pivots are without what the node lifts. Relies on weigh (whether one node holds both),
 // emit (the entries written), push's high (the node's high pivot), node and octets; specs/Laws has the laws.
+
+#![tactic(auto)]
+
 pub mod emit;
 pub mod weigh;
 
-ghost use Rattle.image.specs.Prelude.{◌≡◌, true, ◌+◌, ◌≤◌, length};
+ghost use Rattle.std.specs.Prelude.{◌≡◌, true, ◌+◌, ◌≤◌, length};
 ghost use Rattle.image.specs.Image.{whole_nodes};
 ghost use Rattle.image.specs.Sound.{sound};
 ghost use Rattle.image.specs.Upkeep.{reachable_at, reachable_nodes};
@@ -76,7 +79,7 @@ fn write_without(store: &mut [u8], num: usize, level: usize, node: &[u8], stop: 
 }
 
 // The node whose children are joined: its number, its level, and where its entries end in the copy of its page.
-#[derive(Drop)]
+#[derive(Clone, Copy)]
 struct Parent {
     num: usize,
     level: usize,
@@ -84,7 +87,7 @@ struct Parent {
 }
 
 // The numbers of two neighbours.
-#[derive(Drop)]
+#[derive(Clone, Copy)]
 struct Neighbours {
     left: usize,
     right: usize,

@@ -1,6 +1,6 @@
 // How many bytes the entries of two neighbours take in one node. Only reads.
 // Relies on the readers of nodes (node) and on octets; Laws/Joined says what an entry weighs.
-ghost use Rattle.image.specs.Prelude.{◌≡◌, ◌+◌, ◌<◌, ◌≤◌, length};
+ghost use Rattle.std.specs.Prelude.{◌≡◌, ◌+◌, ◌<◌, ◌≤◌, length};
 ghost use Rattle.node.specs.Places.{EntryWithin, entry_in};
 ghost use Rattle.node.specs.Entries.{listed};
 ghost use Rattle.merge.specs.Laws.Joined.{weight, weights, node_weight, pair_fits};

@@ -1,5 +1,6 @@
 -- A part of a list, from a place up to another: as `&s[a..b]` is made.
-use Rattle.image.specs.Prelude.{ℕ, zero, suc, ◌+◌, ◌-◌, ◌<◌, ◌≤◌, ◌≡◌, sym, ap, ◌∙◌, List, [], ◌∷◌, arith, length, take, drop, get_or, length-drop, take-take, drop-drop, drop-nil, take-nil, get_or-take, get_or-drop, length-take-le}
+use Rattle.std.specs.Prelude.{ℕ, zero, suc, ◌+◌, ◌-◌, ◌<◌, ◌≤◌, ◌≡◌, List, [], ◌∷◌, length, take, drop, get_or}
+use Rattle.image.specs.Prelude.{sym, ap, ◌∙◌, arith, length-drop, take-take, drop-drop, drop-nil, take-nil, get_or-take, get_or-drop, length-take-le}
 use Rattle.image.specs.Bytes.{u16}
 
 abbrev pub cut : List ℕ → ℕ → ℕ → List ℕ

@@ -1,5 +1,6 @@
 -- The entries from a place up to another, one at a time.
-use Rattle.image.specs.Prelude.{ℕ, zero, suc, ◌+◌, ◌-◌, ◌<◌, ◌≤◌, ◌≡◌, refl, sym, ap, ap₂, ◌∙◌, List, [], ◌∷◌, Bool, true, false, ◌&&◌, cond, Option, none, some, arith, length, take, drop, length-drop, leb, le-leb, lt-leb, ne_eqb}
+use Rattle.std.specs.Prelude.{ℕ, zero, suc, ◌+◌, ◌-◌, ◌<◌, ◌≤◌, ◌≡◌, refl, List, [], ◌∷◌, Bool, true, false, ◌&&◌, cond, length, take, drop, leb}
+use Rattle.image.specs.Prelude.{sym, ap, ap₂, ◌∙◌, Option, none, some, arith, length-drop, le-leb, lt-leb, ne_eqb}
 use Rattle.image.specs.Bytes.{u16}
 use Rattle.image.specs.Entry.{puts, drops, clears, Entry, pair, child, message, keyed, pointer, entry_of, entry_then, read_all, entries_of}
 use Rattle.laws.specs.Encode.{fuel, shorter}

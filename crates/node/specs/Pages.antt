@@ -1,6 +1,7 @@
 -- A page as a node of a store: entries behind its first bytes, on zeros; a leaf without entries; and node 0. Each is the page of laws/Page.
 -- Relies on octets/specs/Put.
-use Rattle.image.specs.Prelude.{ℕ, ◌+◌, ◌*◌, ◌-◌, ◌≤◌, ◌≡◌, refl, sym, ap, ap₂, ◌∙◌, List, [], ◌∷◌, ◌++◌, arith, length, take, drop, replicate, take-append-drop}
+use Rattle.std.specs.Prelude.{ℕ, ◌+◌, ◌*◌, ◌-◌, ◌≤◌, ◌≡◌, refl, List, [], ◌∷◌, ◌++◌, length, take, drop, replicate}
+use Rattle.image.specs.Prelude.{sym, ap, ap₂, ◌∙◌, arith, take-append-drop}
 use Rattle.image.specs.Bytes.{u16_bytes}
 use Rattle.laws.specs.Page.{page, page-length, head_page, head-length, zeros_of, drop-zeros, take-zeros}
 use Rattle.laws.specs.WriteNode.{write_node}

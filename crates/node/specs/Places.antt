@@ -1,5 +1,6 @@
 -- What the places that a reader answers hold, and what each reader promises.
-use Rattle.image.specs.Prelude.{ℕ, ◌+◌, ◌*◌, ◌<◌, ◌≤◌, ◌≡◌, sym, ap, subst, ◌∙◌, List, [], ◌∷◌, Option, none, some, arith, length}
+use Rattle.std.specs.Prelude.{ℕ, ◌+◌, ◌*◌, ◌<◌, ◌≤◌, ◌≡◌, List, [], ◌∷◌, length}
+use Rattle.image.specs.Prelude.{sym, ap, subst, ◌∙◌, Option, none, some, arith}
 use Rattle.image.specs.Bytes.{u16}
 use Rattle.image.specs.Entry as defined
 use Rattle.node.specs.Cut.{cut}

@@ -1,5 +1,6 @@
 -- The steps of whole_nodes: each test that it makes, against the definition.
-use Rattle.image.specs.Prelude.{ℕ, ◌+◌, ◌*◌, ◌/◌, ◌<◌, ◌≤◌, ◌≡◌, List, true, false, ◌&&◌, length, leb, eqb, eq-eqb, ne_eqb, lt-leb, le-leb, eqb-true, leb-true}
+use Rattle.std.specs.Prelude.{ℕ, ◌+◌, ◌*◌, ◌/◌, ◌<◌, ◌≤◌, ◌≡◌, List, true, false, ◌&&◌, length, leb, eqb}
+use Rattle.image.specs.Prelude.{eq-eqb, ne_eqb, lt-leb, le-leb, eqb-true, leb-true}
 use Rattle.octets.specs.Order.{and_left, and_right}
 use Rattle.image.specs.Bytes.{u16}
 use Rattle.image.specs.Image.{nodes_of, whole_nodes}

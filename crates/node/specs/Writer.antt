@@ -1,6 +1,7 @@
 -- Step lemmas of the writer: writes one after the other are one entry, and a page with its first bytes is one put into the store.
 -- Relies on octets' `put-put`; the bytes of an entry are laws' Encode.
-use Rattle.image.specs.Prelude.{ℕ, suc, ◌+◌, ◌*◌, ◌≤◌, ◌≡◌, refl, ap, ap₂, ◌∙◌, List, ◌++◌, append_assoc, arith, length, length-append}
+use Rattle.std.specs.Prelude.{ℕ, suc, ◌+◌, ◌*◌, ◌≤◌, ◌≡◌, refl, List, ◌++◌, length}
+use Rattle.image.specs.Prelude.{ap, ap₂, ◌∙◌, append_assoc, arith, length-append}
 use Rattle.image.specs.Bytes.{u16_bytes}
 use Rattle.image.specs.Entry.{pair, child}
 use Rattle.octets.specs.Put.{put, put-put}

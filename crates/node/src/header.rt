@@ -1,6 +1,6 @@
 // The numbers of node 0 and those in front of a node's entries, each by its name; a node is told by the place where it begins.
 // Relies on image's places of these numbers and on octets, which reads one.
-ghost use Rattle.image.specs.Prelude.{◌≡◌, ◌+◌, ◌<◌, length};
+ghost use Rattle.std.specs.Prelude.{◌≡◌, ◌+◌, ◌<◌, length};
 ghost use Rattle.image.specs.Bytes.{u16};
 
 // How many nodes node 0 says that there are.

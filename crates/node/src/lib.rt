@@ -1,11 +1,14 @@
 // The nodes of a store: how many there are, the numbers of their headers (module header), the entries of a node, read one by one by a cursor, what a
 // node says of a path (module search), and (module writer) how nodes are written. Every reader answers places in the slice that it was lent, and
 // promises that they lie inside it. Relies on octets and on the numbers of image.
+
+#![tactic(auto)]
+
 pub mod header;
 pub mod search;
 pub mod writer;
 
-ghost use Rattle.image.specs.Prelude.{◌≡◌, ◌≤◌, length};
+ghost use Rattle.std.specs.Prelude.{◌≡◌, ◌≤◌, length};
 ghost use Rattle.node.specs.Places.{SplitAs, GotAs, Stepped, cursor_of};
 ghost use Rattle.node.specs.Whole.{HasNode};
 ghost use Rattle.node.specs.Search.PairSteps.{Stands, PairStepped};
@@ -28,59 +31,59 @@ pub fn whole_nodes(len: usize) -> bool
 }
 
 // The bytes of a path, or of the beginning of one, by value: the first len of them. A length over 64 says that there is none.
-#[derive(Drop)]
+#[derive(Clone, Copy)]
 pub struct PathBuffer {
     pub bytes: [u8; 64],
     pub len: usize,
 }
 
 // A part of a slice: from start up to, not including, stop.
-#[derive(Drop)]
+#[derive(Clone, Copy)]
 pub struct Place {
     pub start: usize,
     pub stop: usize,
 }
 
-#[derive(Drop)]
+#[derive(Clone, Copy)]
 pub enum Message {
     Put(Place, Place),
     Drop(Place),
     Clear(Place),
 }
 
-#[derive(Drop)]
+#[derive(Clone, Copy)]
 pub enum Entry {
     Pair(Place, Place),
     Child(usize, Place),
     Message(Message),
 }
 
-#[derive(Drop)]
+#[derive(Clone, Copy)]
 pub enum Got {
     Good(Entry),
     Bad,
 }
 
-#[derive(Drop)]
+#[derive(Clone, Copy)]
 pub enum Split {
     At(usize),
     Bad,
 }
 
-#[derive(Drop)]
+#[derive(Clone, Copy)]
 pub struct Cursor {
     pub at: usize,
     pub end: usize,
 }
 
-#[derive(Drop)]
+#[derive(Clone, Copy)]
 pub enum Step {
     Read(Entry, Cursor),
     Bad,
 }
 
 // A pair at a cursor: its key, its value, and the cursor past it; or no pair stands there.
-#[derive(Drop)]
+#[derive(Clone, Copy)]
 pub enum PairStep {
     Read(Place, Place, Cursor),
     Other,

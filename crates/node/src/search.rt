@@ -1,6 +1,6 @@
 // What one node says of a path: its newest message on it, the pair of a leaf, the child that owns it; its children one by one; and whether it holds
 // messages, and how many. Relies on the cursor and on octets; specs/Search joins each reader to the definitions.
-ghost use Rattle.image.specs.Prelude.{◌≡◌, ℕ, ◌≤◌, length, List, [], ◌∷◌};
+ghost use Rattle.std.specs.Prelude.{◌≡◌, ℕ, ◌≤◌, length, List, [], ◌∷◌};
 ghost use Rattle.node.specs.Places.{EntryWithin, MessageWithin, Within, part, entry_in, message_in};
 ghost use Rattle.image.specs.Meaning.{says_of};
 ghost use Rattle.node.specs.Search.Child.{Pends};
@@ -13,7 +13,7 @@ ghost use Rattle.node.specs.Search.Pairs.{Finds, find_among, pair_is};
 use crate::{Cursor, Entry, Message, Place, Step};
 
 // The latest word of a node's messages on a path.
-#[derive(Drop)]
+#[derive(Clone, Copy)]
 pub enum Latest {
     Nothing,
     Gone,
@@ -171,13 +171,13 @@ pub fn count_messages(store: &[u8], from: usize, end: usize) -> usize
     count
 }
 
-#[derive(Drop)]
+#[derive(Clone, Copy)]
 pub enum Found {
     Value(Place),
     Nothing,
 }
 
-#[derive(Drop)]
+#[derive(Clone, Copy)]
 pub enum Pair {
     Of(Place, Place),
     Other,
@@ -217,7 +217,7 @@ pub fn find(s: &[u8], from: usize, end: usize, rest: &[u8]) -> Found
 }
 
 // The child that owns a rest: its number, its low pivot, and its high pivot where the next child has it.
-#[derive(Drop)]
+#[derive(Clone, Copy)]
 pub enum Owner {
     Inner(usize, Place, Place),
     Last(usize, Place),
@@ -225,13 +225,13 @@ pub enum Owner {
 }
 
 // The children of a node from one on: the place of its low pivot, and the cursor past it.
-#[derive(Drop)]
+#[derive(Clone, Copy)]
 pub struct Run {
     pub low: Place,
     pub rest: Cursor,
 }
 
-#[derive(Drop)]
+#[derive(Clone, Copy)]
 pub enum Branch {
     Of(usize, Place),
     Other,
@@ -315,7 +315,7 @@ pub fn owner_of(s: &[u8], from: usize, end: usize, hi: &[u8], rest: &[u8]) -> Ow
 }
 
 // The next child of an interior node, and the cursor after it.
-#[derive(Drop)]
+#[derive(Clone, Copy)]
 pub enum Pending {
     Child(usize, Place, Cursor),
     End,

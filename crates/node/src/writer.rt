@@ -1,7 +1,7 @@
 // The writer of the format: how an entry, the first bytes of a node's page and node 0 are laid out is said here, and nowhere else.
 // An entry goes into a page of 1,024 bytes or straight into a store. Relies on octets; laws' Encode and Page have the bytes, specs/Writer and
 // specs/Pages the steps.
-ghost use Rattle.image.specs.Prelude.{◌≡◌, [], ◌++◌, ◌+◌, ◌*◌, ◌/◌, ◌<◌, ◌≤◌, length};
+ghost use Rattle.std.specs.Prelude.{◌≡◌, [], ◌++◌, ◌+◌, ◌*◌, ◌/◌, ◌<◌, ◌≤◌, length};
 ghost use Rattle.image.specs.Bytes.{u16_bytes};
 ghost use Rattle.image.specs.Entry.{pair, child};
 ghost use Rattle.laws.specs.Encode.{bytes_of, keyed_entry, short_entry, head_bytes};

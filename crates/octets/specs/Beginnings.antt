@@ -1,5 +1,6 @@
 -- Laws of beginnings, and of what two byte strings share at the front. Relies on Order.
-use Rattle.image.specs.Prelude.{ℕ, ◌≤◌, ◌≡◌, refl, sym, ◌∙◌, ap, List, [], ◌∷◌, ◌++◌, true, false, false≢true, arith, length, drop, take, eqb, eqb-true, eq-eqb, le-ltb, cases}
+use Rattle.std.specs.Prelude.{ℕ, ◌≤◌, ◌≡◌, refl, List, [], ◌∷◌, ◌++◌, true, false, length, drop, take, eqb}
+use Rattle.image.specs.Prelude.{sym, ◌∙◌, ap, false≢true, arith, eqb-true, eq-eqb, le-ltb, cases}
 use Rattle.image.specs.Bytes.{begins, shared, before}
 use Rattle.octets.specs.Order.{and_left, and_right}
 

@@ -1,5 +1,6 @@
 -- Numbers told up to 65,535, the most that two bytes hold: a sum told so may be told so at every step. Relies on nothing.
-use Rattle.image.specs.Prelude.{ℕ, ◌+◌, ◌<◌, ◌≤◌, ◌≡◌, sym, ap, ap₂, ◌∙◌, cond, arith, leb, eqb, le-leb, leb-true, leb-false, ne_eqb, cases}
+use Rattle.std.specs.Prelude.{ℕ, ◌+◌, ◌<◌, ◌≤◌, ◌≡◌, cond, leb, eqb}
+use Rattle.image.specs.Prelude.{sym, ap, ap₂, ◌∙◌, arith, le-leb, leb-true, leb-false, ne_eqb, cases}
 
 -- the smaller of a number and 65,535
 unfoldable pub cap : ℕ → ℕ

@@ -1,5 +1,6 @@
 -- What two lists share tells every test on them.
-use Rattle.image.specs.Prelude.{ℕ, zero, suc, ◌-◌, ◌<◌, ◌≤◌, ◌≡◌, refl, sym, ap, ◌∙◌, List, [], ◌∷◌, Bool, true, false, ◌&&◌, arith, length, drop, get_or, drop_of_length-le, drop-cons, ltb, eqb, eqb-true, eqb-false, le-ltb, eq-eqb, ne_eqb, cases}
+use Rattle.std.specs.Prelude.{ℕ, zero, suc, ◌-◌, ◌<◌, ◌≤◌, ◌≡◌, refl, List, [], ◌∷◌, Bool, true, false, ◌&&◌, length, drop, get_or, ltb, eqb}
+use Rattle.image.specs.Prelude.{sym, ap, ◌∙◌, arith, drop_of_length-le, drop-cons, eqb-true, eqb-false, le-ltb, eq-eqb, ne_eqb, cases}
 use Rattle.image.specs.Bytes.{same, before, begins, shared}
 use Rattle.image.specs.Path.{owns}
 

@@ -1,5 +1,6 @@
 -- Laws of the byte order, of beginnings and of the common beginning.
-use Rattle.image.specs.Prelude.{ℕ, ◌<◌, ◌≤◌, ◌≡◌, refl, sym, ap, subst, ◌∙◌, ◌⊎◌, inl, inr, List, [], ◌∷◌, ◌++◌, Bool, true, false, ◌&&◌, ◌||◌, not, true≢false, false≢true, arith, length, drop, ltb, eqb, ltb-true, ltb-false, eqb-true, lt-ltb, le-ltb, eq-eqb, ne_eqb}
+use Rattle.std.specs.Prelude.{ℕ, ◌<◌, ◌≤◌, ◌≡◌, refl, ◌⊎◌, List, [], ◌∷◌, ◌++◌, Bool, true, false, ◌&&◌, ◌||◌, not, length, drop, ltb, eqb}
+use Rattle.image.specs.Prelude.{sym, ap, subst, ◌∙◌, inl, inr, true≢false, false≢true, arith, ltb-true, ltb-false, eqb-true, lt-ltb, le-ltb, eq-eqb, ne_eqb}
 use Rattle.image.specs.Bytes.{same, before, begins, shared}
 
 -- a conjunction's parts, and the ways out of a wrong test

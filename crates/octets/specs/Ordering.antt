@@ -1,5 +1,6 @@
 -- How two strings stand to each other, as one answer, and the laws by which the code finds it.
-use Rattle.image.specs.Prelude.{ℕ, ◌<◌, ◌≤◌, ◌≡◌, sym, ◌∙◌, List, true, false, cond, arith, length, get_or, eqb, lt-ltb, le-ltb, eq-eqb, ne_eqb, eqb-true, eqb-false, cases}
+use Rattle.std.specs.Prelude.{ℕ, ◌<◌, ◌≤◌, ◌≡◌, List, true, false, cond, length, get_or, eqb}
+use Rattle.image.specs.Prelude.{sym, ◌∙◌, arith, lt-ltb, le-ltb, eq-eqb, ne_eqb, eqb-true, eqb-false, cases}
 use Rattle.image.specs.Bytes.{same, before, shared}
 use Rattle.octets.specs.Compare.{equal_by, not_equal, no-by, yes-by, at-by}
 use Rattle.octets.specs.declared.Ordering.{Ordering}

@@ -1,5 +1,6 @@
 -- Bytes put into a page at a place: what every writer of bytes leaves, and its laws (one put after another is one put).
-use Rattle.image.specs.Prelude.{ℕ, zero, suc, ◌+◌, ◌/◌, ◌%◌, ◌≤◌, ◌<◌, ◌-◌, ◌≡◌, refl, sym, ap, ap₂, ◌∙◌, List, [], ◌∷◌, ◌++◌, append_assoc, arith, length, take, drop, get_or, set, length-append, length-drop, take-append-drop, replicate, length-replicate, List·getD-append, set_split, take-suc, length-take-le, drop-drop, drop-append-add, take_at, get_or-append-add}
+use Rattle.std.specs.Prelude.{ℕ, zero, suc, ◌+◌, ◌/◌, ◌%◌, ◌≤◌, ◌<◌, ◌-◌, ◌≡◌, refl, List, [], ◌∷◌, ◌++◌, length, take, drop, get_or, set, replicate}
+use Rattle.image.specs.Prelude.{sym, ap, ap₂, ◌∙◌, append_assoc, arith, length-append, length-drop, take-append-drop, length-replicate, List·getD-append, set_split, take-suc, length-take-le, drop-drop, drop-append-add, take_at, get_or-append-add}
 use Rattle.image.specs.Bytes.{u16_bytes, u16}
 
 -- the bytes bs in place of as many bytes of the page, from `at` on

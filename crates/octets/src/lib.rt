@@ -1,6 +1,9 @@
 // Strings of bytes and the numbers in them: what the other crates read, compare and write bytes with. One loop compares from the front,
 // `common_length`, and the orders follow from it by laws; `equal` compares from the end. Relies on no other code.
-ghost use Rattle.image.specs.Prelude.{◌≡◌, ◌+◌, ◌<◌, ◌≤◌, length, replicate};
+
+#![tactic(auto)]
+
+ghost use Rattle.std.specs.Prelude.{◌≡◌, ◌+◌, ◌<◌, ◌≤◌, length, replicate};
 ghost use Rattle.image.specs.Bytes.{same, before, begins, shared, u16, u16_bytes};
 ghost use Rattle.image.specs.Path.{owns};
 ghost use Rattle.octets.specs.Cap.{cap};
@@ -90,7 +93,7 @@ pub fn precedes(a: &[u8], b: &[u8]) -> bool
     a[k] < b[k]
 }
 
-#[derive(Drop)]
+#[derive(Clone, Copy)]
 pub enum Ordering {
     Less,
     Equal,

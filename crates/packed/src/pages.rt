@@ -1,6 +1,6 @@
 // The interior nodes of the packed form: the child entries of the marked rows in a page, and the page as a node of the store.
 // Relies on rows (a mark is the number of the node that starts at its row), on node's writer and on octets.
-ghost use Rattle.image.specs.Prelude.{◌≡◌, ◌+◌, ◌*◌, ◌-◌, ◌<◌, ◌≤◌, length};
+ghost use Rattle.std.specs.Prelude.{◌≡◌, ◌+◌, ◌*◌, ◌-◌, ◌<◌, ◌≤◌, length};
 ghost use Rattle.image.specs.Bytes.{shared};
 ghost use Rattle.packed.specs.Rows.Area.{RowsFit};
 ghost use Rattle.packed.specs.Rows.Branches.{mark_at, low_of_row, high_of_row, node_page};

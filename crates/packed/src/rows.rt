@@ -1,6 +1,6 @@
 // The rows of the work area, 128 bytes each: where the next leaf or the next interior node of the packed form ends, and the marks, which say at
 // which row a node of the level below starts. Relies on octets; specs/Rows/Area has the layout of a row.
-ghost use Rattle.image.specs.Prelude.{◌≡◌, ◌+◌, ◌*◌, ◌-◌, ◌<◌, ◌≤◌, length};
+ghost use Rattle.std.specs.Prelude.{◌≡◌, ◌+◌, ◌*◌, ◌-◌, ◌<◌, ◌≤◌, length};
 ghost use Rattle.packed.specs.Rows.Area.{RowsFit, leaf_end};
 ghost use Rattle.packed.specs.Rows.Branches.{mark_at, node_end, weight_at};
 ghost use Rattle.packed.specs.Rows.Puts.{put_mark};

@@ -1,5 +1,6 @@
 -- The code's shape as the definition's, and each case of a byte more.
-use Rattle.image.specs.Prelude.{ℕ, suc, ◌+◌, ◌<◌, ◌≤◌, ◌≡◌, refl, ◌∙◌, List, [], ◌∷◌, Bool, true, arith, length, drop, get_or, drop_of_length-le, drop-cons, lt-ltb, le-ltb, le-leb, lt-leb, eq-eqb, ne_eqb, add-one}
+use Rattle.std.specs.Prelude.{ℕ, suc, ◌+◌, ◌<◌, ◌≤◌, ◌≡◌, refl, List, [], ◌∷◌, Bool, true, length, drop, get_or}
+use Rattle.image.specs.Prelude.{◌∙◌, arith, drop_of_length-le, drop-cons, lt-ltb, le-ltb, le-leb, lt-leb, eq-eqb, ne_eqb, add-one}
 use Rattle.image.specs.Bytes.{same}
 use Rattle.image.specs.Path.{letter, well_formed, path_or_empty}
 use Rattle.path.specs.Shape as defined
@@ -70,7 +71,7 @@ feed-end sh s i answer h inv = rw (drop_of_length-le s h) at inv
 -- from no byte on it is the definition
 pub path-is : (r : Bool) (p : List ℕ) → r ≡ defined.goes_on (shape_is (Shape.Partway 0 0 0)) p → r ≡ well_formed p
 unfolding shape_is defined.feed
-path-is r p e = e ∙ defined.shape_is [] p
+path-is r p e = e ∙ defined.shape-is [] p
 
 -- the empty path is one of no bytes, and no other has none
 pub none-fed : (p : List ℕ) → length p ≡ 0 → true ≡ path_or_empty p

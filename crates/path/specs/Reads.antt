@@ -1,6 +1,7 @@
 -- The rest of a path within its length: the paper's `reads_on`, byte by byte, for the loop that asks it, and `goes_on` from it.
 -- Relies on Shape, which has `goes_on` as a length and `reads_on`.
-use Rattle.image.specs.Prelude.{ℕ, ◌+◌, ◌-◌, ◌<◌, ◌≤◌, ◌≡◌, refl, sym, ap, ◌∙◌, List, ◌∷◌, Bool, true, false, ◌&&◌, ◌⊎◌, inl, inr, arith, length, drop, get_or, drop_of_length-le, drop-cons, ltb, leb, eqb, le-leb, lt-leb, eq-eqb, ne_eqb, ltb-true, ltb-false, add-one}
+use Rattle.std.specs.Prelude.{ℕ, ◌+◌, ◌-◌, ◌<◌, ◌≤◌, ◌≡◌, refl, List, ◌∷◌, Bool, true, false, ◌&&◌, ◌⊎◌, length, drop, get_or, ltb, leb, eqb}
+use Rattle.image.specs.Prelude.{sym, ap, ◌∙◌, inl, inr, arith, drop_of_length-le, drop-cons, le-leb, lt-leb, eq-eqb, ne_eqb, ltb-true, ltb-false, add-one}
 use Rattle.image.specs.Path.{letter, reads_on}
 use Rattle.path.specs.Shape as defined
 use Rattle.path.specs.Fed.{shape_is}

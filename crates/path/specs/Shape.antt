@@ -1,6 +1,7 @@
 -- The shape of a path as a small state machine that is fed bytes, slice by slice: so a suffix is judged after its prefix without joining
 -- them. Each counter stays within the limit that a path has for it, so that code cannot overflow. `shape-is`: it is the definition.
-use Rattle.image.specs.Prelude.{ℕ, suc, ◌+◌, ◌<◌, ◌≤◌, ◌≡◌, refl, sym, ap, ◌∙◌, List, [], ◌∷◌, ◌++◌, Bool, true, false, ◌&&◌, cond, and-false, arith, length, ltb, leb, eqb, ne_eqb, lt-leb, le-leb, ltb-false}
+use Rattle.std.specs.Prelude.{ℕ, suc, ◌+◌, ◌<◌, ◌≤◌, ◌≡◌, refl, List, [], ◌∷◌, ◌++◌, Bool, true, false, ◌&&◌, cond, length, ltb, leb, eqb}
+use Rattle.image.specs.Prelude.{sym, ap, ◌∙◌, and-false, arith, ne_eqb, lt-leb, le-leb, ltb-false}
 use Rattle.image.specs.Path.{letter, reads_on, path_limit, well_formed}
 
 -- after some bytes: no path begins so, or it has whole components, bytes of the next, and bytes in all

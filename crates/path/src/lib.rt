@@ -1,13 +1,16 @@
 // Whether bytes are a well-formed path: a small state machine that is fed slice by slice, so that a suffix can be judged after a prefix that is not
 // stored. specs/Shape.antt proves it equal to the definition of the paper. Relies on no other code.
-ghost use Rattle.image.specs.Prelude.{◌≡◌, ◌<◌, ◌≤◌, length};
+
+#![tactic(auto)]
+
+ghost use Rattle.std.specs.Prelude.{◌≡◌, ◌<◌, ◌≤◌, length};
 ghost use Rattle.path.specs.Shape as defined;
 ghost use Rattle.path.specs.Fed.{shape_is};
 ghost use Rattle.path.specs.Reads.{Reads};
 ghost use Rattle.image.specs.Path.{reads_on, well_formed, path_or_empty};
 
 // After some bytes: no path begins so; or whole components, bytes of the next one, and bytes in all.
-#[derive(Drop)]
+#[derive(Clone, Copy)]
 pub enum Shape {
     Dead,
     Partway(usize, usize, usize),
@@ -64,7 +67,7 @@ pub fn feed(start: Shape, s: &[u8]) -> Shape
 }
 
 // One byte more of a path within a path's length: no path goes on so; or whole components, and bytes of the next one.
-#[derive(Drop)]
+#[derive(Clone, Copy)]
 pub enum Reading {
     Bad,
     At(usize, usize),

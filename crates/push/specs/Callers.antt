@@ -1,5 +1,6 @@
 -- What a caller of `push_down` cites, by its answer.
-use Rattle.image.specs.Prelude.{ℕ, ◌≡◌, subst, List}
+use Rattle.std.specs.Prelude.{ℕ, ◌≡◌, List}
+use Rattle.image.specs.Prelude.{subst}
 use Rattle.push.specs.Laws.PushedDown.{PushedDown}
 use Rattle.push.specs.declared.Pushed.{Pushed}
 use Rattle.push.specs.Outcome.{Outcome}

@@ -1,6 +1,7 @@
 -- Step lemmas of the loop over the children: the child in hand takes its messages, and those that follow have room still.
 -- Relies on Laws/Only.
-use Rattle.image.specs.Prelude.{ℕ, ◌≡◌, sym, ap, ◌∙◌, List, [], ◌∷◌, true}
+use Rattle.std.specs.Prelude.{ℕ, ◌≡◌, List, [], ◌∷◌, true}
+use Rattle.image.specs.Prelude.{sym, ap, ◌∙◌}
 use Rattle.image.specs.Entry.{Entry}
 use Rattle.image.specs.Image.{Branch}
 use Rattle.image.specs.Sound.{once}

@@ -1,6 +1,7 @@
 -- Step lemmas of a leaf that takes messages: the pairs that stay, put into a page, and the page written.
 -- Relies on Laws/Leaves and LeafRoom.
-use Rattle.image.specs.Prelude.{ℕ, ◌+◌, ◌-◌, ◌*◌, ◌≤◌, ◌≡◌, refl, sym, ap, ap₂, ◌∙◌, List, [], ◌∷◌, ◌++◌, append_assoc, append-nil, Bool, true, false, not, cond, arith, length, drop, length-append, eq-eqb, ne_eqb}
+use Rattle.std.specs.Prelude.{ℕ, ◌+◌, ◌-◌, ◌*◌, ◌≤◌, ◌≡◌, refl, List, [], ◌∷◌, ◌++◌, Bool, true, false, not, cond, length, drop}
+use Rattle.image.specs.Prelude.{sym, ap, ap₂, ◌∙◌, append_assoc, append-nil, arith, length-append, eq-eqb, ne_eqb}
 use Rattle.image.specs.Bytes.{u16, u16_bytes, same, before, begins, shared}
 use Rattle.image.specs.Entry as defined
 use Rattle.octets.specs.Order.{not-true}

@@ -1,6 +1,7 @@
 -- Step lemmas of the flush of a node: the copy of its page lists its entries, and each exit keeps the promise.
 -- Relies on Laws/PushedDown.
-use Rattle.image.specs.Prelude.{ℕ, suc, ◌+◌, ◌*◌, ◌-◌, ◌≤◌, ◌≡◌, refl, sym, ap, ap₂, subst, ◌∙◌, List, [], ◌∷◌, ◌++◌, append-nil, Bool, true, false, not, true≢false, some, arith, length, take, drop}
+use Rattle.std.specs.Prelude.{ℕ, suc, ◌+◌, ◌*◌, ◌-◌, ◌≤◌, ◌≡◌, refl, List, [], ◌∷◌, ◌++◌, Bool, true, false, not, length, take, drop}
+use Rattle.image.specs.Prelude.{sym, ap, ap₂, subst, ◌∙◌, append-nil, true≢false, some, arith}
 use Rattle.image.specs.Bytes.{u16, u16_bytes}
 use Rattle.image.specs.Entry as defined
 use Rattle.image.specs.Image.{Branch, tree_of, whole_nodes}

@@ -1,5 +1,6 @@
 -- What a flush by one level promises, by its answer, and what the flush of a node relies on. Definitions only.
-use Rattle.image.specs.Prelude.{ℕ, ◌≡◌, List, [], true, some, length}
+use Rattle.std.specs.Prelude.{ℕ, ◌≡◌, List, [], true, length}
+use Rattle.image.specs.Prelude.{some}
 use Rattle.image.specs.Image.{whole_nodes, tree_of}
 use Rattle.image.specs.Sound.{sound, highest}
 use Rattle.image.specs.Upkeep.{reachable_at, reachable_nodes}

@@ -1,6 +1,7 @@
 -- Step lemmas of the tests and sizes: which messages touch a child, and how many bytes they bring.
 -- Relies on Laws/Arriving and on the places that node's readers promise.
-use Rattle.image.specs.Prelude.{ℕ, ◌+◌, ◌-◌, ◌*◌, ◌<◌, ◌≤◌, ◌≡◌, sym, ap, ◌∙◌, List, [], ◌∷◌, Bool, true, false, ◌||◌, ◌&&◌, not, cond, and-true, arith, length, take, drop, length-append, length-take, drop_of_length-le, leb, lt-leb, le-ltb, lt-ltb}
+use Rattle.std.specs.Prelude.{ℕ, ◌+◌, ◌-◌, ◌*◌, ◌<◌, ◌≤◌, ◌≡◌, List, [], ◌∷◌, Bool, true, false, ◌||◌, ◌&&◌, not, cond, length, take, drop, leb}
+use Rattle.image.specs.Prelude.{sym, ap, ◌∙◌, and-true, arith, length-append, length-take, drop_of_length-le, lt-leb, le-ltb, lt-ltb}
 use Rattle.image.specs.Bytes.{u16, begins, shared}
 use Rattle.image.specs.Path.{owns}
 use Rattle.image.specs.Entry as defined

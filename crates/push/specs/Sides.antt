@@ -1,5 +1,5 @@
 -- Which pairs of a leaf stay, by a key, and the bytes of those. Definitions only.
-use Rattle.image.specs.Prelude.{ℕ, List, Bool, not}
+use Rattle.std.specs.Prelude.{ℕ, List, Bool, not}
 use Rattle.image.specs.Bytes.{same, before, begins}
 use Rattle.image.specs.Entry as defined
 use Rattle.laws.specs.Encode.{bytes_of_all}

@@ -1,6 +1,7 @@
 -- Step lemmas of the writers: entries put into a page one after the other, and a page written as a node.
 -- Relies on octets' `put` and its laws, and on Laws/Written.
-use Rattle.image.specs.Prelude.{ℕ, ◌+◌, ◌-◌, ◌*◌, ◌<◌, ◌≤◌, ◌≡◌, refl, sym, ap, ap₂, ◌∙◌, List, [], ◌∷◌, ◌++◌, true, arith, length, drop, length-append, ltb, ltb-true}
+use Rattle.std.specs.Prelude.{ℕ, ◌+◌, ◌-◌, ◌*◌, ◌<◌, ◌≤◌, ◌≡◌, refl, List, [], ◌∷◌, ◌++◌, true, length, drop, ltb}
+use Rattle.image.specs.Prelude.{sym, ap, ap₂, ◌∙◌, arith, length-append, ltb-true}
 use Rattle.image.specs.Bytes.{u16, u16_bytes}
 use Rattle.image.specs.Entry as defined
 use Rattle.octets.specs.Put.{put, put-put, put-nil}

@@ -1,6 +1,6 @@
 // The high pivot of an interior node without what the node lifts: only its parent knows it, so it is sought from the root down.
 // Relies on the readers of nodes (node), on octets and on `usable` (laws/Reading); Laws/High says what is found.
-ghost use Rattle.image.specs.Prelude.{◌≡◌, ◌∷◌, [], true, length};
+ghost use Rattle.std.specs.Prelude.{◌≡◌, ◌∷◌, [], true, length};
 ghost use Rattle.image.specs.Image.{tree_at, tree_of, nodes_of, forest_of};
 ghost use Rattle.image.specs.Sound.{sound, highest};
 ghost use Rattle.laws.specs.Reading.Relative.{usable};
@@ -14,14 +14,14 @@ use node::search::Pending;
 use node::{Cursor, Place};
 
 // How many bytes the pivot has that was sought; it stands at the front of the buffer if it fits.
-#[derive(Drop)]
+#[derive(Clone, Copy)]
 pub enum Sought {
     Found(usize),
     Missing,
 }
 
 // The children of a node from one on: its number and the place of its low pivot, the cursor past it, and their level.
-#[derive(Drop)]
+#[derive(Clone, Copy)]
 pub struct Run {
     pub first: usize,
     pub low: Place,

@@ -1,6 +1,6 @@
 // What a leaf takes: each message that touches it, oldest first, is applied to its pairs, and the pairs that stay are written anew.
 // Relies on room, on node's cursor and writer and on octets; specs/Sides says which pairs stay.
-ghost use Rattle.image.specs.Prelude.{◌≡◌, ◌∷◌, [], true, ◌+◌, ◌≤◌, length};
+ghost use Rattle.std.specs.Prelude.{◌≡◌, ◌∷◌, [], true, ◌+◌, ◌≤◌, length};
 ghost use Rattle.image.specs.Entry.{message, puts};
 ghost use Rattle.laws.specs.Encode.{bytes_of, bytes_of_all};
 ghost use Rattle.octets.specs.Put.{put};
@@ -16,7 +16,7 @@ use crate::room;
 use node::{Cursor, Entry, Message, Step, writer};
 
 // Which pairs of a leaf stay, by a key: those before it, those after it, all but its own, or all that do not begin with it.
-#[derive(Drop)]
+#[derive(Clone, Copy)]
 pub enum Side {
     Before,
     After,

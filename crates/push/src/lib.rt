@@ -1,12 +1,15 @@
 // A flush by one level: all messages of an interior node go, oldest first, to the children that they touch, if all these have room. Everything is
 // told from inside the node: suffixes and pivots are without what the node lifts. Relies on high, room (whether the children have room), message and
 // leaf (what an interior child and a leaf take), node and octets; specs/Laws has the laws.
+
+#![tactic(auto)]
+
 pub mod high;
 mod leaf;
 pub mod message;
 pub mod room;
 
-ghost use Rattle.image.specs.Prelude.{◌≡◌, true, ◌+◌, ◌*◌, ◌<◌, ◌≤◌, length};
+ghost use Rattle.std.specs.Prelude.{◌≡◌, true, ◌+◌, ◌*◌, ◌<◌, ◌≤◌, length};
 ghost use Rattle.image.specs.Sound.{once, sound};
 ghost use Rattle.octets.specs.Put.{put};
 ghost use Rattle.node.specs.Entries.{listed};
@@ -23,7 +26,7 @@ use node::search::Pending;
 use node::{Cursor, writer};
 
 // What came of a flush by one level: all messages are with the children, or a child has no room and nothing is changed.
-#[derive(Drop)]
+#[derive(Clone, Copy)]
 pub enum Pushed {
     Done,
     NoRoom,

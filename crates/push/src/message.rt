@@ -1,6 +1,6 @@
 // What an interior child takes: the messages that touch it, without what it lifts, behind its own entries.
 // Relies on room, which says what touches a child, on node's cursor and writer and on octets.
-ghost use Rattle.image.specs.Prelude.{◌≡◌, true, ◌+◌, ◌≤◌, length};
+ghost use Rattle.std.specs.Prelude.{◌≡◌, true, ◌+◌, ◌≤◌, length};
 ghost use Rattle.image.specs.Entry.{message};
 ghost use Rattle.laws.specs.Encode.{bytes_of};
 ghost use Rattle.octets.specs.Put.{put};

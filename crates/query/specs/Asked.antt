@@ -1,5 +1,6 @@
 -- get and next, question by question: what each way out of the code answers is what the contract says. One law for both, over the query.
-use Rattle.image.specs.Prelude.{ℕ, zero, suc, ◌+◌, ◌<◌, ◌≤◌, ◌≡◌, refl, sym, ap₂, ◌∙◌, List, [], ◌∷◌, Bool, true, false, ◌&&◌, and-true, none, some, arith, length, leb, le-leb, lt-leb}
+use Rattle.std.specs.Prelude.{ℕ, zero, suc, ◌+◌, ◌<◌, ◌≤◌, ◌≡◌, refl, List, [], ◌∷◌, Bool, true, false, ◌&&◌, length, leb}
+use Rattle.image.specs.Prelude.{sym, ap₂, ◌∙◌, and-true, none, some, arith, le-leb, lt-leb}
 use Rattle.image.specs.Path.{well_formed, path_or_empty, value_limit, path_limit}
 use Rattle.image.specs.Table.{Row, is_some}
 use Rattle.image.specs.Image.{nodes_of, whole_nodes}

@@ -1,6 +1,7 @@
 -- The steps of check: the two questions in order, and the live count of a sound store.
 -- Relies on what the check of soundness promises of node 0's numbers (soundness: Judged) and on what makes an image sound (laws: ButLive).
-use Rattle.image.specs.Prelude.{ℕ, suc, ◌≤◌, ◌≡◌, refl, sym, ◌∙◌, List, Bool, true, false, arith, length}
+use Rattle.std.specs.Prelude.{ℕ, suc, ◌≤◌, ◌≡◌, refl, List, Bool, true, false, length}
+use Rattle.image.specs.Prelude.{sym, ◌∙◌, arith}
 use Rattle.image.specs.Bytes.{u16}
 use Rattle.image.specs.Image.{whole_nodes, most_nodes}
 use Rattle.image.specs.Sound.{sound, table_of}

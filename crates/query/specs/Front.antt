@@ -1,6 +1,7 @@
 -- What an accepted get or next leaves in its buffer: the bytes that were found at the front, and behind them what stood there.
 -- Relies on nothing but lists.
-use Rattle.image.specs.Prelude.{ℕ, ◌≡◌, sym, ap, ◌∙◌, List, ◌++◌, length, take, drop, take_at, drop_at}
+use Rattle.std.specs.Prelude.{ℕ, ◌≡◌, List, ◌++◌, length, take, drop}
+use Rattle.image.specs.Prelude.{sym, ap, ◌∙◌, take_at, drop_at}
 
 pub record Front (bytes buffer : List ℕ) (n : ℕ) (buffer' : List ℕ) : Type 0 where
   pub size : n ≡ length bytes

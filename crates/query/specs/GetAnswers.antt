@@ -1,7 +1,8 @@
 -- A get in the words of a reader: on a sound store, of a well-formed path and with a buffer that is long enough, it is answered by the value
 -- that the store gives the path, and refused 8 exactly where there is none. All of it follows from the contract of get.
 -- Relies on: the questions of a get (Asked), and the law that the table holds what lookup finds (laws/LookupTable).
-use Rattle.image.specs.Prelude.{ℕ, ◌≤◌, ◌≡◌, refl, sym, ap, ◌∙◌, List, [], ◌∷◌, ◌++◌, true, Option, none, some, arith, length, drop, le-leb}
+use Rattle.std.specs.Prelude.{ℕ, ◌≤◌, ◌≡◌, refl, List, [], ◌∷◌, ◌++◌, true, length, drop}
+use Rattle.image.specs.Prelude.{sym, ap, ◌∙◌, Option, none, some, arith, le-leb}
 use Rattle.image.specs.Path.{well_formed, value_limit}
 use Rattle.image.specs.Table.{find, is_some}
 use Rattle.image.specs.Image.{whole_nodes}

@@ -1,6 +1,7 @@
 -- Two rising tables have the same keys exactly if they are equally long and every key of the one is in the other.
 -- Relies on: rising tables (laws/specs/Rising), and inclusion by what is present (inclusion/specs/Root).
-use Rattle.image.specs.Prelude.{ℕ, ◌≤◌, ◌≡◌, refl, sym, ◌∙◌, List, [], ◌∷◌, Bool, true, false, false≢true, none, arith, length}
+use Rattle.std.specs.Prelude.{ℕ, ◌≤◌, ◌≡◌, refl, List, [], ◌∷◌, Bool, true, false, length}
+use Rattle.image.specs.Prelude.{sym, ◌∙◌, false≢true, none, arith}
 use Rattle.image.specs.Bytes.{same, before}
 use Rattle.image.specs.Table.{Row, find, is_some, every_key, leads, rising}
 use Rattle.image.specs.Contract.{same_keys}

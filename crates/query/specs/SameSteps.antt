@@ -1,6 +1,7 @@
 -- The steps of same: the counts, the walk, and the questions in order.
 -- Relies on: SamePaths (when two tables have the same keys), CheckSteps (the live count), and on what inclusion promises.
-use Rattle.image.specs.Prelude.{ℕ, suc, ◌≡◌, refl, sym, ◌∙◌, List, Bool, true, false, length}
+use Rattle.std.specs.Prelude.{ℕ, suc, ◌≡◌, refl, List, Bool, true, false, length}
+use Rattle.image.specs.Prelude.{sym, ◌∙◌}
 use Rattle.image.specs.Bytes.{u16}
 use Rattle.image.specs.Image.{whole_nodes}
 use Rattle.image.specs.Sound.{sound, table_of}

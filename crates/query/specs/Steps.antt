@@ -1,5 +1,6 @@
 -- What the readers hand to get and next, in the words of the questions.
-use Rattle.image.specs.Prelude.{ℕ, ◌-◌, ◌<◌, ◌≤◌, ◌≡◌, refl, sym, ap, subst, ◌∙◌, List, Bool, true, false, none, some, arith, length, take, drop, length-drop, length-take-le}
+use Rattle.std.specs.Prelude.{ℕ, ◌-◌, ◌<◌, ◌≤◌, ◌≡◌, refl, List, Bool, true, false, length, take, drop}
+use Rattle.image.specs.Prelude.{sym, ap, subst, ◌∙◌, none, some, arith, length-drop, length-take-le}
 use Rattle.image.specs.Path.{well_formed, path_or_empty, value_limit}
 use Rattle.image.specs.Table.{find, least_after}
 use Rattle.image.specs.Sound.{sound, value_in, table_of}

@@ -1,7 +1,10 @@
 // get, next, same and check: the calls that read a store. Each asks the paper's questions in order; a refusal changes no byte. get_fit and next_fit
 // are the parts from question 3 on, for a store that is known to be sound. Relies on: node (question 1, the live count), soundness (2), path (3),
 // lookup and successor for what is found, octets for its copy, inclusion for same.
-ghost use Rattle.image.specs.Prelude.{◌≡◌, true, [], ◌≤◌, length};
+
+#![tactic(auto)]
+
+ghost use Rattle.std.specs.Prelude.{◌≡◌, true, [], ◌≤◌, length};
 ghost use Rattle.image.specs.Path.{value_limit, path_limit};
 ghost use Rattle.image.specs.Image.{whole_nodes, most_nodes};
 ghost use Rattle.image.specs.Calls.{asks, get, next};

@@ -1,6 +1,7 @@
 -- A call after questions 1 and 2: what it is handed, and what its part from question 3 on leaves of the store and of the work area.
 -- Relies on rebuild (an area cleared) and on finish (a cleared area, cleared again).
-use Rattle.image.specs.Prelude.{ℕ, ◌*◌, ◌/◌, ◌≤◌, ◌≡◌, refl, sym, ap, subst, ◌∙◌, List, ◌++◌, true, ◌⊎◌, inl, ⊎_elim, arith, length, drop}
+use Rattle.std.specs.Prelude.{ℕ, ◌*◌, ◌/◌, ◌≤◌, ◌≡◌, refl, List, ◌++◌, true, ◌⊎◌, length, drop}
+use Rattle.image.specs.Prelude.{sym, ap, subst, ◌∙◌, inl, ⊎_elim, arith}
 use Rattle.image.specs.Image.{nodes_of, whole_nodes}
 use Rattle.image.specs.Sound.{sound, table_of}
 use Rattle.image.specs.Calls.{Call, work_per_node, table_after}
@@ -51,6 +52,10 @@ pub acted-refused : {c : Call} {w : List ℕ} (s : List ℕ) (q : Refusal) → L
 unfolding area_after
 acted-refused s q l e = record { met = act-refused s q l e; area = inl refl; kept = λ r f. refl }
 
+counts-nodes : (n len : ℕ) → n ≡ len / 1024 → n ≡ nodes_of len
+unfolding nodes_of
+counts-nodes n len e = e
+
 module _ (s : List ℕ) (c : Call) (r : Outcome) (s' w w' : List ℕ) (p : Passed s w) (a : Acted s c r s' w w') where
   same_size : length w' ≡ length w
   same_size = ⊎_elim (λ e. ap length e) (λ e. cleared-size (nodes_of (length s)) w w' e p.long) a.area
@@ -75,7 +80,7 @@ module _ (s : List ℕ) (c : Call) (r : Outcome) (s' w w' : List ℕ) (p : Passe
       by_answer (Outcome.Refused x) q = unfold area_after in a.kept x q
 
       by-nodes : n ≡ length s / 1024 → area_after r n w' ≡ area_after r (nodes_of (length s)) w
-      by-nodes q = ap (λ k. area_after r k w') (let z : n ≡ nodes_of (length s) = unfold nodes_of in q in z) ∙ by_answer r refl
+      by-nodes q = ap (λ k. area_after r k w') (counts-nodes n (length s) q) ∙ by_answer r refl
 
   -- an area that is zero where it must be stays as it is, and the contract holds already
   module _ (zero_area : w ≡ cleared (nodes_of (length s)) w) where

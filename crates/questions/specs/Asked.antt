@@ -1,6 +1,7 @@
 -- What questions 1 and 2 leave, by the answer, and what a caller reads off it.
 -- Relies on tree_check's Callers (Established: what a yes says of the image) and on questions' Callers (Lent: the call is lent the work area).
-use Rattle.image.specs.Prelude.{ℕ, ◌*◌, ◌≤◌, ◌≡◌, subst, List, true, length}
+use Rattle.std.specs.Prelude.{ℕ, ◌*◌, ◌≤◌, ◌≡◌, List, true, length}
+use Rattle.image.specs.Prelude.{subst}
 use Rattle.image.specs.Image.{nodes_of, whole_nodes}
 use Rattle.image.specs.Sound.{sound}
 use Rattle.image.specs.Calls.{Call, work_per_node}

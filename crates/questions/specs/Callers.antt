@@ -1,7 +1,8 @@
 -- For the calls that are lent a work area (acts and upkeep): the contract Meets from what the code does. One law for an accepted call, one
 -- for a refused one, one for each answer of questions 1 and 2; then settle and tidy, which are a rebuild.
 -- Relies on the paper's definitions and on what a rebuild promises.
-use Rattle.image.specs.Prelude.{ℕ, zero, suc, ◌*◌, ◌<◌, ◌≤◌, ◌≡◌, refl, sym, ap, ◌∙◌, List, [], ◌++◌, true, false, ◌&&◌, arith, length, leb, le-leb, lt-leb}
+use Rattle.std.specs.Prelude.{ℕ, zero, suc, ◌*◌, ◌<◌, ◌≤◌, ◌≡◌, refl, List, [], ◌++◌, true, false, ◌&&◌, length, leb}
+use Rattle.image.specs.Prelude.{sym, ap, ◌∙◌, arith, le-leb, lt-leb}
 use Rattle.image.specs.Table.{Row}
 use Rattle.image.specs.Image.{nodes_of, whole_nodes}
 use Rattle.image.specs.Sound.{sound, table_of}

@@ -1,6 +1,7 @@
 -- The steps of ask: one law for each way out of the code.
 -- Relies on questions' Callers for the number of each refusal, and on what soundness promises.
-use Rattle.image.specs.Prelude.{ℕ, ◌*◌, ◌/◌, ◌<◌, ◌≤◌, ◌≡◌, sym, ◌∙◌, List, Bool, true, false, length}
+use Rattle.std.specs.Prelude.{ℕ, ◌*◌, ◌/◌, ◌<◌, ◌≤◌, ◌≡◌, List, Bool, true, false, length}
+use Rattle.image.specs.Prelude.{sym, ◌∙◌}
 use Rattle.image.specs.Image.{nodes_of, whole_nodes}
 use Rattle.image.specs.declared.Refusal.{Refusal}
 use Rattle.tree_check.specs.declared.Checked.{Checked}
@@ -8,7 +9,7 @@ use Rattle.tree_check.specs.declared.Tally.{Tally}
 use Rattle.soundness.specs.Judged.{Judged, verdict-yes, verdict-no}
 use Rattle.questions.specs.Callers.{ragged-number, short-number, unsound-number}
 use Rattle.questions.specs.declared.Admission.{Admission}
-use Rattle.questions.specs.Asked.{Fit, Asked}
+use Rattle.questions.specs.Asked.{Asked}
 
 module _ (s w seen : List ℕ) where
   pub ragged-store : (x : Bool) → x ≡ whole_nodes (length s) → x ≡ false → Asked s w seen (Admission.Refused Refusal.Length)

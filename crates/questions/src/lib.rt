@@ -1,7 +1,10 @@
 // Questions 1 and 2 of every call that is lent a work area: are store and work area long enough, and is the image sound? And what such a call
 // needs at its end: the work area zeroed. The calls that change a store ask this first.
 // Relies on node (question 1), soundness (question 2), tree_check (what its walk counted) and packed (the area).
-ghost use Rattle.image.specs.Prelude.{◌≡◌, ◌*◌, ◌≤◌, length};
+
+#![tactic(auto)]
+
+ghost use Rattle.std.specs.Prelude.{◌≡◌, ◌*◌, ◌≤◌, length};
 ghost use Rattle.questions.specs.Asked.{Asked};
 ghost use Rattle.questions.specs.Acted.{area_after};
 
@@ -9,7 +12,7 @@ use image::{Outcome, Refusal};
 use tree_check::{Checked, Tally};
 
 // Whether a call may go on to its later questions. Fit: what the check of the image has counted.
-#[derive(Drop)]
+#[derive(Clone, Copy)]
 pub enum Admission {
     Fit(Tally),
     Refused(Refusal),

@@ -1,6 +1,6 @@
 -- What a rebuild promises: the same map in packed form, and the work area as an accepted call must leave it.
 -- Relies on the paper's definitions (image) and on packed's table and rows (Tidy, Area).
-use Rattle.image.specs.Prelude.{ℕ, ◌+◌, ◌*◌, ◌-◌, ◌/◌, ◌≤◌, ◌≡◌, List, ◌++◌, true, false, length, drop, replicate}
+use Rattle.std.specs.Prelude.{ℕ, ◌+◌, ◌*◌, ◌-◌, ◌/◌, ◌≤◌, ◌≡◌, List, ◌++◌, true, false, length, drop, replicate}
 use Rattle.image.specs.Table.{Row}
 use Rattle.image.specs.Image.{nodes_of, whole_nodes, header_of, tree_of}
 use Rattle.image.specs.Sound.{sound, table_of, is_in, numbers}

@@ -1,6 +1,7 @@
 -- The steps of the rebuild: what build asks and gives, and how the parts of the work area come back.
 -- Relies on packed/specs/Build/BuiltLaws and on packed/specs (the packed image has at most three levels).
-use Rattle.image.specs.Prelude.{ℕ, zero, suc, ◌+◌, ◌*◌, ◌-◌, ◌/◌, ◌≤◌, ◌≡◌, refl, sym, ap, ap₂, subst, ◌∙◌, List, ◌++◌, append-nil, true, false, arith, length, take, drop, replicate, length-replicate, drop_of_length-le, leb, ne_eqb}
+use Rattle.std.specs.Prelude.{ℕ, zero, suc, ◌+◌, ◌*◌, ◌-◌, ◌/◌, ◌≤◌, ◌≡◌, refl, List, ◌++◌, true, false, length, take, drop, replicate, leb}
+use Rattle.image.specs.Prelude.{sym, ap, ap₂, subst, ◌∙◌, append-nil, arith, length-replicate, drop_of_length-le, ne_eqb}
 use Rattle.image.specs.Image.{nodes_of, whole_nodes, header_of}
 use Rattle.image.specs.Sound.{sound, table_of, is_in}
 use Rattle.image.specs.Upkeep.{settled, tidied, used}

@@ -1,6 +1,6 @@
 -- The table of a sound store is one that the packed form can hold: few rows, rising, paths well formed, values short.
 -- Relies on laws/specs (Follow, Formed, ValuesFit) and dump/specs/RootSteps (how many rows).
-use Rattle.image.specs.Prelude.{ℕ, ◌≡◌, List, true, length}
+use Rattle.std.specs.Prelude.{ℕ, ◌≡◌, List, true, length}
 use Rattle.image.specs.Image.{nodes_of}
 use Rattle.image.specs.Sound.{sound, table_of}
 use Rattle.laws.specs.Follow.{table-rises}

@@ -1,6 +1,9 @@
 // The rebuild of a store in packed form: every row of the map is dumped, rising, into the work area, and the packed tree is built from
 // the rows over the same store. Relies on `dump` and `packed`; the caller has checked that the store is sound.
-ghost use Rattle.image.specs.Prelude.{◌≡◌, true, ◌*◌, ◌≤◌, length, replicate};
+
+#![tactic(auto)]
+
+ghost use Rattle.std.specs.Prelude.{◌≡◌, true, ◌*◌, ◌≤◌, length, replicate};
 ghost use Rattle.image.specs.Image.{nodes_of, whole_nodes};
 ghost use Rattle.image.specs.Sound.{sound, table_of};
 ghost use Rattle.image.specs.Calls.{work_per_node};

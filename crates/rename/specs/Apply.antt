@@ -1,5 +1,6 @@
 -- What the act of a move asks, and one law for each way out of the call. Relies on Prepare/Moved (the contract from the steps).
-use Rattle.image.specs.Prelude.{ℕ, ◌*◌, ◌-◌, ◌/◌, ◌≤◌, ◌≡◌, refl, sym, ap, subst, ◌∙◌, List, ◌++◌, Bool, true, false, length, take, drop}
+use Rattle.std.specs.Prelude.{ℕ, ◌*◌, ◌-◌, ◌/◌, ◌≤◌, ◌≡◌, refl, List, ◌++◌, Bool, true, false, length, take, drop}
+use Rattle.image.specs.Prelude.{sym, ap, subst, ◌∙◌}
 use Rattle.image.specs.Bytes.{same}
 use Rattle.image.specs.Image.{nodes_of, whole_nodes, header_of}
 use Rattle.image.specs.Sound.{table_of}

@@ -1,6 +1,6 @@
 // Questions 7, 8 and 9 of a move. They read the store and both paths, and touch neither the store nor the work area. Relies on octets, path (the
 // shape of a path, fed in pieces) and successor (the next path below a path, or the next whose rest does not fit a shape).
-ghost use Rattle.image.specs.Prelude.{◌≡◌, true, not};
+ghost use Rattle.std.specs.Prelude.{◌≡◌, true, not};
 ghost use Rattle.image.specs.Path.{well_formed, proper_beginning, may_move};
 ghost use Rattle.image.specs.Table.{rows_below, moved, every_key};
 ghost use Rattle.image.specs.Calls.{is_empty};

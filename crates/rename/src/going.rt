@@ -1,13 +1,13 @@
 // The questions of move from 3 on, in order, and what is to be done when all are a yes. Nothing is written here.
 // Relies on path (3), asks (7, 8 and 9) and octets.
-ghost use Rattle.image.specs.Prelude.{◌≡◌, true};
+ghost use Rattle.std.specs.Prelude.{◌≡◌, true};
 ghost use Rattle.image.specs.Sound.{sound, table_of};
 ghost use Rattle.rename.specs.Going.Going.{going_of};
 
 use image::Refusal;
 
 // A move is refused, or leaves every byte of the store (from equals to), or goes.
-#[derive(Drop)]
+#[derive(Clone, Copy)]
 pub enum Going {
     Refused(Refusal),
     Stays,

@@ -1,11 +1,14 @@
 // move: what is below one path comes below another (document 003 calls it a range rename). Questions in order, then the swing of a store made ready
 // for it. A refusal changes no byte; an accepted move zeroes the first 128 bytes for each node of the work area. Relies on questions (1 and 2), going
 // (the later ones), prepare (a settled store with free nodes), swing (the act), finish (the live count) and packed (the area, where a path stays).
+
+#![tactic(auto)]
+
 pub mod asks;
 pub mod going;
 pub mod prepare;
 
-ghost use Rattle.image.specs.Prelude.{◌≡◌};
+ghost use Rattle.std.specs.Prelude.{◌≡◌};
 ghost use Rattle.image.specs.Upkeep.{settled};
 ghost use Rattle.image.specs.Calls.{acts, move};
 ghost use Rattle.image.specs.Contract.{Meets};

@@ -1,7 +1,7 @@
 // A store made ready for the swing of a move: settled, a level left for the new root, and its free nodes listed. Where it is not so, it is rebuilt
 // first, and then it always is. Relies on questions (what 1 and 2 leave), swing's spare (the free nodes from the marks of those in use), rebuild
 // (which leaves the upper nodes free), packed (numbers listed) and node (the levels).
-ghost use Rattle.image.specs.Prelude.{◌≡◌, ◌-◌, ◌/◌, ◌≤◌, length};
+ghost use Rattle.std.specs.Prelude.{◌≡◌, ◌-◌, ◌/◌, ◌≤◌, length};
 ghost use Rattle.image.specs.Upkeep.{settled};
 ghost use Rattle.packed.specs.Form.Packed.{numbers_from};
 ghost use Rattle.packed.specs.Build.Handed.{listed};

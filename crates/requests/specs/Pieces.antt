@@ -1,5 +1,6 @@
 -- What the places of a piece hold, and what its reader promises.
-use Rattle.image.specs.Prelude.{ℕ, ◌+◌, ◌<◌, ◌≤◌, ◌≡◌, List, ◌++◌, cond, Option, none, some, length, drop, eqb}
+use Rattle.std.specs.Prelude.{ℕ, ◌+◌, ◌<◌, ◌≤◌, ◌≡◌, List, ◌++◌, cond, length, drop, eqb}
+use Rattle.image.specs.Prelude.{Option, none, some}
 use Rattle.image.specs.Path.{path_limit, value_limit}
 use Rattle.image.specs.Bytes.{u16_bytes}
 use Rattle.image.specs.Calls as calls

@@ -1,5 +1,6 @@
 -- The reader of a piece and the writer of an answer: one law for each way out of the code.
-use Rattle.image.specs.Prelude.{ℕ, ◌+◌, ◌-◌, ◌<◌, ◌≤◌, ◌≡◌, refl, sym, ap, ap₂, subst, ◌∙◌, List, ◌++◌, Bool, true, false, ◌&&◌, cond, Option, none, some, arith, length, take, drop, get_or, length-drop, length-append, drop-drop, get_or-drop, length-take-le, leb, eqb, le-leb, lt-leb, eq-eqb, ne_eqb}
+use Rattle.std.specs.Prelude.{ℕ, ◌+◌, ◌-◌, ◌<◌, ◌≤◌, ◌≡◌, refl, List, ◌++◌, Bool, true, false, ◌&&◌, cond, length, take, drop, get_or, leb, eqb}
+use Rattle.image.specs.Prelude.{sym, ap, ap₂, subst, ◌∙◌, Option, none, some, arith, length-drop, length-append, drop-drop, get_or-drop, length-take-le, le-leb, lt-leb, eq-eqb, ne_eqb}
 use Rattle.image.specs.Path.{value_limit, path_limit}
 use Rattle.image.specs.Bytes.{u16, u16_bytes}
 use Rattle.image.specs.Entry.{pair, keyed}

@@ -1,6 +1,9 @@
 // The pieces of a batch: the request at a place of its bytes, told as places in them; an answer written as bytes; the numbers of answers.
 // Relies on node (places, a rest of two strings), octets, and image for the definitions.
-ghost use Rattle.image.specs.Prelude.{◌≡◌, ◌+◌, ◌≤◌, length};
+
+#![tactic(auto)]
+
+ghost use Rattle.std.specs.Prelude.{◌≡◌, ◌+◌, ◌≤◌, length};
 ghost use Rattle.image.specs.Path.{path_limit};
 ghost use Rattle.image.specs.Batch.{request_of, answer_bytes};
 ghost use Rattle.image.specs.Answers.{refusal_limit, refusal_number, outcome_number, outcome_answer, found_answer};
@@ -16,7 +19,7 @@ use node::{Place, Split};
 pub const ANSWER_HEAD: usize = 4;
 
 // A request that changes the store, or keeps it up.
-#[derive(Drop)]
+#[derive(Clone, Copy)]
 pub enum Change {
     Put(Place, Place),
     Drop(Place),
@@ -29,14 +32,14 @@ pub enum Change {
 }
 
 // A request that reads.
-#[derive(Drop)]
+#[derive(Clone, Copy)]
 pub enum Query {
     Get(Place),
     Next(Place, Place),
 }
 
 // A piece: a request, or none that reads.
-#[derive(Drop)]
+#[derive(Clone, Copy)]
 pub enum Piece {
     Change(Change),
     Query(Query),
@@ -44,7 +47,7 @@ pub enum Piece {
 }
 
 // A piece, and where the next one begins.
-#[derive(Drop)]
+#[derive(Clone, Copy)]
 pub struct Reading {
     pub piece: Piece,
     pub end: usize,

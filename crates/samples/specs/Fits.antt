@@ -1,6 +1,6 @@
 -- When two neighbours would fit in one node, on small trees at the limits: 1,016 bytes, a pivot suffix of 65, and no message. The second
 -- program tests its own rule at the same limits (tests/second/tests/upkeep.rs).
-use Rattle.image.specs.Prelude.{ℕ, ◌≡◌, refl, List, [], ◌∷◌, ◌++◌, true, false, replicate}
+use Rattle.std.specs.Prelude.{ℕ, ◌≡◌, refl, List, [], ◌∷◌, ◌++◌, true, false, replicate}
 use Rattle.image.specs.Bytes.{shared}
 use Rattle.image.specs.Entry.{drops}
 use Rattle.image.specs.Table.{Row}

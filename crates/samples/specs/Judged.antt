@@ -1,5 +1,5 @@
 -- The definitions, computed on each image of Data, say what the second program says of it.
-use Rattle.image.specs.Prelude.{◌≡◌, refl}
+use Rattle.std.specs.Prelude.{◌≡◌, refl}
 use Rattle.image.specs.Bytes.{same, before, begins, shared, zeros, u16}
 use Rattle.image.specs.Path.{letter, reads_on, well_formed, below, owns, value_fits}
 use Rattle.image.specs.Entry.{keyed, pointer, entry_of, entry_then, read_all, entries_of}

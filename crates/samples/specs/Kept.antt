@@ -1,6 +1,6 @@
 -- The definitions, computed on each change of Data, say what the second program says of it: its own flushes and heals keep the rules of
 -- upkeep, and those that only seem to be done do not.
-use Rattle.image.specs.Prelude.{◌≡◌, refl, true, false}
+use Rattle.std.specs.Prelude.{◌≡◌, refl, true, false}
 use Rattle.image.specs.Bytes.{same, before, begins, shared, zeros, u16}
 use Rattle.image.specs.Path.{letter, reads_on, well_formed, below, owns, value_fits}
 use Rattle.image.specs.Entry.{keyed, pointer, entry_of, entry_then, read_all, entries_of}

@@ -1,6 +1,7 @@
 -- What an image is, and what upkeep of a node made of one, each as one record: by the definitions (`verdict_of`, `kept_of`), and as the
 -- second program prints it in Data.
-use Rattle.image.specs.Prelude.{ℕ, ◌-◌, List, [], ◌++◌, Bool, true, false, cond, Option, none, some, length, replicate}
+use Rattle.std.specs.Prelude.{ℕ, ◌-◌, List, [], ◌++◌, Bool, true, false, cond, length, replicate}
+use Rattle.image.specs.Prelude.{Option, none, some}
 use Rattle.image.specs.Table.{Row}
 use Rattle.image.specs.Image.{nodes_of}
 use Rattle.image.specs.Sound as defined

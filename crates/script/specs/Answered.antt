@@ -1,6 +1,7 @@
 -- What a call's contract says of the text of a line: the store's answers are the plain map's, where the store is sound and of 64 nodes.
 -- Relies on: the contract Meets, and the list of a query's questions (query).
-use Rattle.image.specs.Prelude.{ℕ, zero, suc, ◌+◌, ◌*◌, ◌≤◌, ◌≡◌, refl, sym, ap, subst, ◌∙◌, List, [], ◌∷◌, ◌++◌, true, ◌&&◌, Option, none, some, arith, length, take, drop, length-replicate, take_at, leb, le-leb}
+use Rattle.std.specs.Prelude.{ℕ, zero, suc, ◌+◌, ◌*◌, ◌≤◌, ◌≡◌, refl, List, [], ◌∷◌, ◌++◌, true, ◌&&◌, length, take, drop, leb}
+use Rattle.image.specs.Prelude.{sym, ap, subst, ◌∙◌, Option, none, some, arith, length-replicate, take_at, le-leb}
 use Rattle.image.specs.Path.{value_limit, path_limit}
 use Rattle.image.specs.Table.{Row, find, is_some}
 use Rattle.image.specs.Image.{nodes_of, whole_nodes}

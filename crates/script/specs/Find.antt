@@ -1,5 +1,6 @@
 -- Where a byte first stands, and the fields of a line by the places of its spaces.
-use Rattle.image.specs.Prelude.{ℕ, suc, ◌+◌, ◌<◌, ◌≤◌, ◌≡◌, refl, sym, ap, ◌∙◌, List, [], ◌∷◌, Bool, true, false, cond, arith, length, take, drop, get_or, drop_of_length-le, drop-cons, eqb, eq-eqb, ne_eqb, eqb-true, eqb-false, add-one}
+use Rattle.std.specs.Prelude.{ℕ, suc, ◌+◌, ◌<◌, ◌≤◌, ◌≡◌, refl, List, [], ◌∷◌, Bool, true, false, cond, length, take, drop, get_or, eqb}
+use Rattle.image.specs.Prelude.{sym, ap, ◌∙◌, arith, drop_of_length-le, drop-cons, eq-eqb, ne_eqb, eqb-true, eqb-false, add-one}
 use Rattle.image.specs.Sound.{is_in}
 use Rattle.image.specs.Program.{space, with_byte, fields_of}
 

@@ -1,5 +1,6 @@
 -- A line by its fields, as the code takes it apart: the word, then the rest.
-use Rattle.image.specs.Prelude.{ℕ, ◌+◌, ◌-◌, ◌<◌, ◌≤◌, ◌≡◌, refl, sym, ap, ap₂, ◌∙◌, List, [], ◌∷◌, Bool, true, false, ◌||◌, cond, arith, length, take, drop, length-drop, take_all, eqb, lt-ltb, le-ltb, ne_eqb}
+use Rattle.std.specs.Prelude.{ℕ, ◌+◌, ◌-◌, ◌<◌, ◌≤◌, ◌≡◌, refl, List, [], ◌∷◌, Bool, true, false, ◌||◌, cond, length, take, drop, eqb}
+use Rattle.image.specs.Prelude.{sym, ap, ap₂, ◌∙◌, arith, length-drop, take_all, lt-ltb, le-ltb, ne_eqb}
 use Rattle.image.specs.Bytes.{same}
 use Rattle.image.specs.Program.{space, fields_of, with_byte, some_empty, Command, bad, word_alone, word_and_path, word_and_two, read_fields, command_of}
 use Rattle.script.specs.Find.{up_to, one_field, more-fields}

@@ -1,5 +1,6 @@
 -- Paths and values read from text: what each way out of the code leaves at the front of its buffer.
-use Rattle.image.specs.Prelude.{ℕ, suc, ◌+◌, ◌*◌, ◌-◌, ◌<◌, ◌≤◌, ◌≡◌, refl, sym, ap, ◌∙◌, List, [], ◌∷◌, ◌++◌, append_assoc, append-nil, Bool, true, false, Option, none, some, arith, length, take, drop, get_or, set, drop_of_length-le, length-set, drop-cons, lt-ltb, le-ltb}
+use Rattle.std.specs.Prelude.{ℕ, suc, ◌+◌, ◌*◌, ◌-◌, ◌<◌, ◌≤◌, ◌≡◌, refl, List, [], ◌∷◌, ◌++◌, Bool, true, false, length, take, drop, get_or, set}
+use Rattle.image.specs.Prelude.{sym, ap, ◌∙◌, append_assoc, append-nil, Option, none, some, arith, drop_of_length-le, length-set, drop-cons, lt-ltb, le-ltb}
 use Rattle.image.specs.Path.{value_limit}
 use Rattle.image.specs.Bytes.{same}
 use Rattle.image.specs.Sound.{is_in}

@@ -1,6 +1,7 @@
 -- The rows below a path, one by one: next gives each path in turn, get its value, and the text of the rows follows.
 -- Relies on: Answered (what a query finds), laws/Follow (what follows a path in a rising table), laws/Formed (what follows the empty one).
-use Rattle.image.specs.Prelude.{ℕ, ◌+◌, ◌*◌, ◌-◌, ◌<◌, ◌≤◌, ◌≡◌, refl, sym, ap, ap₂, subst, ◌∙◌, List, [], ◌∷◌, ◌++◌, append_assoc, Bool, true, false, cond, false≢true, none, some, arith, length, take, drop, length-append, length-take-le}
+use Rattle.std.specs.Prelude.{ℕ, ◌+◌, ◌*◌, ◌-◌, ◌<◌, ◌≤◌, ◌≡◌, refl, List, [], ◌∷◌, ◌++◌, Bool, true, false, cond, length, take, drop}
+use Rattle.image.specs.Prelude.{sym, ap, ap₂, subst, ◌∙◌, append_assoc, false≢true, none, some, arith, length-append, length-take-le}
 use Rattle.image.specs.Bytes.{same, before, begins}
 use Rattle.image.specs.Path.{well_formed, path_or_empty, reads_on, value_limit}
 use Rattle.image.specs.Table.{Row, find, is_some, rows_below, rows_after, first_key, least_after, leads, rising}

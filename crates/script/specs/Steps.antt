@@ -1,5 +1,6 @@
 -- The steps of the writers and of the answers: one law for each way out of the code.
-use Rattle.image.specs.Prelude.{ℕ, ◌+◌, ◌*◌, ◌-◌, ◌/◌, ◌%◌, ◌<◌, ◌≤◌, ◌≡◌, sym, ap, ap₂, ◌∙◌, List, [], ◌∷◌, ◌++◌, Bool, true, false, not, Option, none, some, arith, length, take, drop, length-take, lt-ltb, le-ltb, eq-eqb, ne_eqb, not-true, not-false}
+use Rattle.std.specs.Prelude.{ℕ, ◌+◌, ◌*◌, ◌-◌, ◌/◌, ◌%◌, ◌<◌, ◌≤◌, ◌≡◌, List, [], ◌∷◌, ◌++◌, Bool, true, false, not, length, take, drop}
+use Rattle.image.specs.Prelude.{sym, ap, ap₂, ◌∙◌, Option, none, some, arith, length-take, lt-ltb, le-ltb, eq-eqb, ne_eqb, not-true, not-false}
 use Rattle.image.specs.Bytes.{same}
 use Rattle.image.specs.Path.{path_or_empty, value_limit}
 use Rattle.image.specs.Table.{rows_below}

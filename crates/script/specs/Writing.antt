@@ -1,5 +1,6 @@
 -- Text put into a buffer from a place on, and its laws: one text after another is one text. Relies on: octets' put.
-use Rattle.image.specs.Prelude.{ℕ, suc, ◌+◌, ◌*◌, ◌/◌, ◌%◌, ◌<◌, ◌≤◌, ◌≡◌, refl, sym, ap, ap₂, ◌∙◌, List, [], ◌∷◌, ◌++◌, append_assoc, append-nil, cond, arith, length, take, drop, get_or, set, length-append, length-set, length-take, take-suc, take-suc-set, take_at, length-take-le, take_all, eqb}
+use Rattle.std.specs.Prelude.{ℕ, suc, ◌+◌, ◌*◌, ◌/◌, ◌%◌, ◌<◌, ◌≤◌, ◌≡◌, refl, List, [], ◌∷◌, ◌++◌, cond, length, take, drop, get_or, set, eqb}
+use Rattle.image.specs.Prelude.{sym, ap, ap₂, ◌∙◌, append_assoc, append-nil, arith, length-append, length-set, length-take, take-suc, take-suc-set, take_at, length-take-le, take_all}
 use Rattle.octets.specs.Put.{put}
 use Rattle.image.specs.Program.{exchanged, hex_text, digit_text}
 

@@ -1,10 +1,13 @@
 // The lines of the program: each is read, its call is made, and its text is put into a page that is lent. What a line says is defined in image,
 // Program. Relies on: edit, rename, maintain and query for the calls, reading for the fields, writing for the texts, path (question 3 of a list),
 // octets.
+
+#![tactic(auto)]
+
 pub mod reading;
 pub mod writing;
 
-ghost use Rattle.image.specs.Prelude.{◌+◌, ◌<◌, ◌≤◌, ◌≡◌, true, length};
+ghost use Rattle.std.specs.Prelude.{◌+◌, ◌<◌, ◌≤◌, ◌≡◌, true, length};
 ghost use Rattle.image.specs.Path.{path_or_empty};
 ghost use Rattle.image.specs.Table.{rows_below};
 ghost use Rattle.image.specs.Sound.{table_of};
@@ -238,7 +241,7 @@ pub fn answer_line(store: &mut [u8], work: &mut [u8], line: &[u8], out: &mut [u8
 }
 
 // After one more byte of input: how many bytes of the line buffer are used, and how many bytes of the page are to be printed.
-#[derive(Drop)]
+#[derive(Clone, Copy)]
 pub struct Progress {
     pub len: usize,
     pub count: usize,

@@ -1,6 +1,6 @@
 // The fields of a line, read: where one ends, the path that a text stands for, the value that hexadecimal text stands for.
 // Relies on octets for bytes and on writing for the exchange of bytes; image, Program defines what a field stands for.
-ghost use Rattle.image.specs.Prelude.{◌+◌, ◌*◌, ◌<◌, ◌≤◌, ◌≡◌, length};
+ghost use Rattle.std.specs.Prelude.{◌+◌, ◌*◌, ◌<◌, ◌≤◌, ◌≡◌, length};
 ghost use Rattle.image.specs.Program.{path_of, digit_of, bytes_of, value_of};
 ghost use Rattle.script.specs.Find.{up_to};
 ghost use Rattle.script.specs.Reading.{Front, Parsed};
@@ -62,7 +62,7 @@ fn read_digit(b: u8) -> u8
 }
 
 // What a field gives as a value: its length, or that it is odd or wrong hexadecimal.
-#[derive(Drop)]
+#[derive(Clone, Copy)]
 pub enum Value {
     Length(usize),
     Wrong,

@@ -1,6 +1,6 @@
 // The texts of answers, put into a page that is lent: each function answers where its text ends.
 // Relies on octets for bytes, and on requests for the numbers of refusals; image, Program defines each text.
-ghost use Rattle.image.specs.Prelude.{◌+◌, ◌*◌, ◌<◌, ◌≤◌, ◌≡◌, cond, [], ◌∷◌, length, eqb};
+ghost use Rattle.std.specs.Prelude.{◌+◌, ◌*◌, ◌<◌, ◌≤◌, ◌≡◌, cond, [], ◌∷◌, length, eqb};
 ghost use Rattle.image.specs.Path.{value_limit};
 ghost use Rattle.image.specs.Answers.{outcome_answer, found_answer};
 ghost use Rattle.query.specs.Asked.{found_length};

@@ -1,6 +1,6 @@
 -- What a caller has in hand is what the slices ask: of a tree that is read from the image, sound and settled, cut by a short cut strictly inside its
 -- range, whose low pivot is empty. And the list of free nodes as the laws of the move have it. Relies on specs/Slicing's `cut_fits` and `read_fits`.
-use Rattle.image.specs.Prelude.{ℕ, ◌+◌, ◌*◌, ◌<◌, ◌≤◌, ◌≡◌, refl, List, [], Bool, true, ◌||◌, length}
+use Rattle.std.specs.Prelude.{ℕ, ◌+◌, ◌*◌, ◌<◌, ◌≤◌, ◌≡◌, refl, List, [], Bool, true, ◌||◌, length}
 use Rattle.image.specs.Bytes.{before, begins, shared}
 use Rattle.image.specs.Entry.{pivot_limit}
 use Rattle.image.specs.Image.{nodes_of, tree_at}

@@ -1,5 +1,6 @@
 -- What the chain of empty nodes asks, and its step lemmas. Relies on specs/Moving's `gap_write`.
-use Rattle.image.specs.Prelude.{ℕ, suc, ◌+◌, ◌*◌, ◌-◌, ◌<◌, ◌≤◌, ◌≡◌, refl, sym, ap, ap₂, ◌∙◌, List, [], ◌++◌, append-nil, arith, length, drop, length-drop}
+use Rattle.std.specs.Prelude.{ℕ, suc, ◌+◌, ◌*◌, ◌-◌, ◌<◌, ◌≤◌, ◌≡◌, refl, List, [], ◌++◌, length, drop}
+use Rattle.image.specs.Prelude.{sym, ap, ap₂, ◌∙◌, append-nil, arith, length-drop}
 use Rattle.image.specs.Bytes.{u16, u16_bytes, shared}
 use Rattle.image.specs.Entry as defined
 use Rattle.image.specs.Image.{end, tree}

@@ -1,5 +1,5 @@
 -- What a left part asks of the store, its pivots, the cut and the free nodes; and the same of the child that holds a cut. Definitions only.
-use Rattle.image.specs.Prelude.{ℕ, ◌+◌, ◌*◌, ◌<◌, ◌≤◌, ◌≡◌, List, true, length}
+use Rattle.std.specs.Prelude.{ℕ, ◌+◌, ◌*◌, ◌<◌, ◌≤◌, ◌≡◌, List, true, length}
 use Rattle.image.specs.Bytes.{before}
 use Rattle.image.specs.Image.{nodes_of, tree_at}
 use Rattle.laws.specs.Reading.Relative.{usable}

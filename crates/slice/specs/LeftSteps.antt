@@ -1,9 +1,10 @@
 -- Step lemmas of the left part: what is composed of a leaf and of an interior node, what the child that holds the cut is asked, and that
 -- the pages written are those of `left_write`. Relies on PointLaws and on specs/Slicing's laws of stripped pivots.
-use Rattle.image.specs.Prelude.{ℕ, zero, suc, ◌+◌, ◌*◌, ◌-◌, ◌≤◌, ◌≡◌, refl, sym, ap, ap₂, subst, ◌∙◌, List, [], ◌∷◌, ◌++◌, append-nil, Bool, true, false, ◌&&◌, false≢true, arith, length, take, drop, length-append, drop_of_length-le, leb, leb-true, lt-ltb}
+use Rattle.std.specs.Prelude.{ℕ, zero, suc, ◌+◌, ◌*◌, ◌-◌, ◌≤◌, ◌≡◌, refl, List, [], ◌∷◌, ◌++◌, Bool, true, false, ◌&&◌, length, take, drop, leb}
+use Rattle.image.specs.Prelude.{sym, ap, ap₂, subst, ◌∙◌, append-nil, false≢true, arith, length-append, drop_of_length-le, leb-true, lt-ltb}
 use Rattle.image.specs.Bytes.{u16, before, shared}
 use Rattle.image.specs.Table.{Row}
-use Rattle.image.specs.Image.{Tree, leaf, interior, Forest, tree, Branch, nodes_of, node_bytes, entry_bytes, tree_at, forest_of}
+use Rattle.image.specs.Image.{Tree, leaf, interior, Forest, Branch, nodes_of, node_bytes, entry_bytes, tree_at, forest_of}
 use Rattle.octets.specs.Order.{and_left, and_right, before-append}
 use Rattle.octets.specs.Put.{put}
 use Rattle.laws.specs.Rising.{both}

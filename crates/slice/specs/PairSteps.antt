@@ -1,5 +1,6 @@
 -- Step lemmas of a leaf's part: which entries are written, one after the other, and the page. Relies on Point and on laws' Encode.
-use Rattle.image.specs.Prelude.{ℕ, ◌≡◌, refl, sym, ap, ◌∙◌, List, [], ◌∷◌, ◌++◌, append-nil, Bool, true, false, not, cond, drop}
+use Rattle.std.specs.Prelude.{ℕ, ◌≡◌, refl, List, [], ◌∷◌, ◌++◌, Bool, true, false, not, cond, drop}
+use Rattle.image.specs.Prelude.{sym, ap, ◌∙◌, append-nil}
 use Rattle.image.specs.Bytes.{before}
 use Rattle.image.specs.Entry as defined
 use Rattle.octets.specs.Order.{not-true}

@@ -1,5 +1,6 @@
 -- Step lemmas of the pages of a right part. Relies on RightLaws and on octets' `put`.
-use Rattle.image.specs.Prelude.{ℕ, zero, suc, ◌+◌, ◌-◌, ◌*◌, ◌<◌, ◌≤◌, ◌≡◌, refl, sym, ap, ap₂, subst, ◌∙◌, List, [], ◌∷◌, ◌++◌, append-nil, Bool, true, false, not, cond, false≢true, true≢false, arith, length, take, drop, length-append, drop_of_length-le, take_at, drop-drop, drop-nil, eqb, eq-eqb, ne_eqb}
+use Rattle.std.specs.Prelude.{ℕ, zero, suc, ◌+◌, ◌-◌, ◌*◌, ◌<◌, ◌≤◌, ◌≡◌, refl, List, [], ◌∷◌, ◌++◌, Bool, true, false, not, cond, length, take, drop, eqb}
+use Rattle.image.specs.Prelude.{sym, ap, ap₂, subst, ◌∙◌, append-nil, false≢true, true≢false, arith, length-append, drop_of_length-le, take_at, drop-drop, drop-nil, eq-eqb, ne_eqb}
 use Rattle.image.specs.Bytes.{u16, shared}
 use Rattle.image.specs.Entry as defined
 use Rattle.image.specs.Image.{Branch}

@@ -1,6 +1,6 @@
 -- Where a cut falls among the children of an interior node, and the bytes of the parts' entries. Definitions only: pivots, cut and keys are
 -- told without what the node lifts. Relies on node's lists of entries and children.
-use Rattle.image.specs.Prelude.{ℕ, zero, suc, ◌+◌, ◌*◌, ◌≡◌, List, [], ◌∷◌, ◌++◌, Bool, true, false, not, cond, length, drop}
+use Rattle.std.specs.Prelude.{ℕ, zero, suc, ◌+◌, ◌*◌, ◌≡◌, List, [], ◌∷◌, ◌++◌, Bool, true, false, not, cond, length, drop}
 use Rattle.image.specs.Bytes.{before, u16}
 use Rattle.image.specs.Entry as defined
 use Rattle.image.specs.Image.{Tree, Branch}

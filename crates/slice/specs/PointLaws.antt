@@ -1,5 +1,6 @@
 -- The parts of a node over its children as they are read, by the point where the cut falls. Relies on Slicing (left_in, left_write_in).
-use Rattle.image.specs.Prelude.{ℕ, suc, ◌+◌, ◌≡◌, refl, sym, ap, ap₂, ◌∙◌, List, [], ◌∷◌, ◌++◌, append_assoc, append-nil, Bool, true, false, cond, false≢true, Option, none, some, arith, length, drop, cases}
+use Rattle.std.specs.Prelude.{ℕ, suc, ◌+◌, ◌≡◌, refl, List, [], ◌∷◌, ◌++◌, Bool, true, false, cond, length, drop}
+use Rattle.image.specs.Prelude.{sym, ap, ap₂, ◌∙◌, append_assoc, append-nil, false≢true, Option, none, some, arith, cases}
 use Rattle.image.specs.Bytes.{before}
 use Rattle.image.specs.Entry as defined
 use Rattle.image.specs.Table.{Row}

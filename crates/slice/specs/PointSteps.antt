@@ -1,5 +1,6 @@
 -- Step lemmas of the search for the point where a cut falls: each child ends the search, or leaves it to those after it.
-use Rattle.image.specs.Prelude.{ℕ, ◌+◌, ◌≡◌, sym, ap, subst, ◌∙◌, List, [], ◌∷◌, Bool, true, false, not, cond, length}
+use Rattle.std.specs.Prelude.{ℕ, ◌+◌, ◌≡◌, List, [], ◌∷◌, Bool, true, false, not, cond, length}
+use Rattle.image.specs.Prelude.{sym, ap, subst, ◌∙◌}
 use Rattle.image.specs.Bytes.{before}
 use Rattle.image.specs.Image.{Branch}
 use Rattle.octets.specs.Order.{not-true}

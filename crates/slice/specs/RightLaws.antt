@@ -1,5 +1,6 @@
 -- The right parts of a node over its children as they are read. Relies on Slicing (edge_in, rest_in, edge_write, over_write).
-use Rattle.image.specs.Prelude.{ℕ, zero, suc, ◌+◌, ◌*◌, ◌≤◌, ◌≡◌, refl, sym, ap, ap₂, ◌∙◌, List, [], ◌∷◌, ◌++◌, append_assoc, Bool, true, false, ◌&&◌, cond, arith, length, drop, length-append, leb, leb-true, ne_eqb, cases}
+use Rattle.std.specs.Prelude.{ℕ, zero, suc, ◌+◌, ◌*◌, ◌≤◌, ◌≡◌, refl, List, [], ◌∷◌, ◌++◌, Bool, true, false, ◌&&◌, cond, length, drop, leb}
+use Rattle.image.specs.Prelude.{sym, ap, ap₂, ◌∙◌, append_assoc, arith, length-append, leb-true, ne_eqb, cases}
 use Rattle.image.specs.Bytes.{before, shared}
 use Rattle.image.specs.Entry as defined
 use Rattle.image.specs.Image.{Tree, Forest, end, tree, Branch, forest_of}

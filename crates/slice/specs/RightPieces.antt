@@ -1,6 +1,7 @@
 -- The pieces of the right part as children of a node: over one node or two, which fit where the whole fits, and what is known of the child
 -- that holds the cut. Relies on RightLaws.
-use Rattle.image.specs.Prelude.{ℕ, zero, suc, ◌+◌, ◌≤◌, ◌≡◌, refl, ap, ap₂, ◌∙◌, List, [], ◌∷◌, ◌++◌, true, false, arith, length, drop, ltb, cases}
+use Rattle.std.specs.Prelude.{ℕ, zero, suc, ◌+◌, ◌≤◌, ◌≡◌, refl, List, [], ◌∷◌, ◌++◌, true, false, length, drop, ltb}
+use Rattle.image.specs.Prelude.{ap, ap₂, ◌∙◌, arith, cases}
 use Rattle.image.specs.Bytes.{before, shared}
 use Rattle.image.specs.Image.{Tree, Forest, end, tree, Branch, forest_of}
 use Rattle.image.specs.Meaning.{high_of}

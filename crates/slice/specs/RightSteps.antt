@@ -1,6 +1,7 @@
 -- Step lemmas of the right part: what is composed of a leaf and of an interior node, what the child that holds the cut is asked, and that
 -- the pages written are those of `right_write`. Relies on RightPieces, RightLaws and on specs/Slicing's laws of stripped pivots.
-use Rattle.image.specs.Prelude.{ℕ, zero, suc, ◌+◌, ◌*◌, ◌-◌, ◌≤◌, ◌≡◌, refl, sym, ap, ap₂, subst, ◌∙◌, List, [], ◌∷◌, ◌++◌, Bool, true, false, ◌&&◌, false≢true, arith, length, take, drop, length-append, take-append_seam, leb, leb-true}
+use Rattle.std.specs.Prelude.{ℕ, zero, suc, ◌+◌, ◌*◌, ◌-◌, ◌≤◌, ◌≡◌, refl, List, [], ◌∷◌, ◌++◌, Bool, true, false, ◌&&◌, length, take, drop, leb}
+use Rattle.image.specs.Prelude.{sym, ap, ap₂, subst, ◌∙◌, false≢true, arith, length-append, take-append_seam, leb-true}
 use Rattle.image.specs.Bytes.{u16, before, shared}
 use Rattle.image.specs.Table.{Row, under_prefix}
 use Rattle.image.specs.Image.{Tree, unread, leaf, interior, Forest, end, tree, Branch, nodes_of, node_bytes, tree_at, forest_of}
@@ -8,7 +9,7 @@ use Rattle.image.specs.Meaning.{high_of}
 use Rattle.octets.specs.Order.{and_left, before-append}
 use Rattle.laws.specs.Encode.{bytes_of_all}
 use Rattle.laws.specs.Filter.{keep, since, lower_rows}
-use Rattle.laws.specs.Pieces.{raise, node}
+use Rattle.laws.specs.Pieces.{raise}
 use Rattle.laws.specs.Page.{page, number_of, pair_entries, branches_of, number_read}
 use Rattle.laws.specs.WriteNode.{write_node}
 use Rattle.laws.specs.Reading.Relative.{branch_high, high-at, usable_in}

@@ -1,6 +1,6 @@
 // The page of a part of an interior node: its children's entries, each pivot without its first bytes. Relies on node's reader of children and writer
 // and on push's room (a part without its first bytes); specs/Point says what stands in the page.
-ghost use Rattle.image.specs.Prelude.{◌≡◌, [], ◌++◌, true, ◌+◌, ◌≤◌, ◌<◌, length, drop};
+ghost use Rattle.std.specs.Prelude.{◌≡◌, [], ◌++◌, true, ◌+◌, ◌≤◌, ◌<◌, length, drop};
 ghost use Rattle.image.specs.Entry.{child};
 ghost use Rattle.laws.specs.Encode.{bytes_of};
 ghost use Rattle.octets.specs.Put.{put};

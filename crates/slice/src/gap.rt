@@ -1,6 +1,6 @@
 // The chain of empty nodes that stands where a range was cut out: one node a level, the deepest written first. The pivots are whole here: each node
 // of the chain has the same. Relies on node's writer and on octets; specs/Moving's `gap_write` says what is written.
-ghost use Rattle.image.specs.Prelude.{◌≡◌};
+ghost use Rattle.std.specs.Prelude.{◌≡◌};
 ghost use Rattle.slice.specs.Moving.GapWrite.{gap_write};
 ghost use Rattle.slice.specs.Point.{fresh_in};
 ghost use Rattle.slice.specs.GapSteps.{GapAsks};

@@ -1,6 +1,9 @@
 // The slices of a settled tree at a cut, written into free nodes, the deepest first. Everything is told from inside a node: pivots and cut are
 // without what the node lifts. A node takes the number of its place in the list of free nodes, its child the next one. Relies on pairs, point and
 // branches (the page of one node), on node's writer and on octets; specs/Slicing's `left_write` says what is written.
+
+#![tactic(auto)]
+
 mod branches;
 pub mod gap;
 mod pairs;
@@ -8,7 +11,7 @@ pub mod pieces;
 mod point;
 pub mod right;
 
-ghost use Rattle.image.specs.Prelude.{◌≡◌, [], ◌+◌, ◌*◌, length};
+ghost use Rattle.std.specs.Prelude.{◌≡◌, [], ◌+◌, ◌*◌, length};
 ghost use Rattle.image.specs.Bytes.{shared};
 ghost use Rattle.image.specs.Image.{tree_at, node_bytes};
 ghost use Rattle.node.specs.Whole.{HasNode};
@@ -20,7 +23,7 @@ use node::{Place, writer};
 
 // Where a cut falls among the children of a node: how many end at it or before it, and the child that holds it strictly inside, with
 // its number and its pivots (the last child's high pivot is the node's); or the pivot of the child that starts at it or after it.
-#[derive(Drop)]
+#[derive(Clone, Copy)]
 pub enum Cut {
     Inner(usize, usize, Place, Place),
     Last(usize, usize, Place),
@@ -29,7 +32,7 @@ pub enum Cut {
 }
 
 // The pieces of a right part: an edge, whose pivot is the cut, and a rest, whose pivot is that many bytes of a buffer.
-#[derive(Drop)]
+#[derive(Clone, Copy)]
 pub enum Parts {
     Nothing,
     Edge,
@@ -38,7 +41,7 @@ pub enum Parts {
 }
 
 // Where the part of a tree goes: the level of its root, and the place of its first number in the list of free nodes.
-#[derive(Drop)]
+#[derive(Clone, Copy)]
 pub struct Slot {
     pub level: usize,
     pub at: usize,

@@ -1,6 +1,6 @@
 // The part of a leaf on one side of a cut: its pairs there, each key without its first bytes; specs/Point says which pairs they are.
 // Relies on node's cursor and writer, on push's room (a part without its first bytes) and on octets.
-ghost use Rattle.image.specs.Prelude.{◌≡◌, ◌∷◌, [], ◌+◌, ◌≤◌, length};
+ghost use Rattle.std.specs.Prelude.{◌≡◌, ◌∷◌, [], ◌+◌, ◌≤◌, length};
 ghost use Rattle.laws.specs.WriteNode.{write_node};
 ghost use Rattle.laws.specs.Page.{page};
 ghost use Rattle.octets.specs.Put.{put};

@@ -1,6 +1,6 @@
 // The pages of a right part: the pieces of the child that held the cut, and the children after it. Relies on branches and on node's reader of
 // children and writer; specs/Right says what stands in the pages.
-ghost use Rattle.image.specs.Prelude.{◌≡◌, [], ◌++◌, true, not, ◌+◌, ◌≤◌, ◌<◌, length, drop, eqb};
+ghost use Rattle.std.specs.Prelude.{◌≡◌, [], ◌++◌, true, not, ◌+◌, ◌≤◌, ◌<◌, length, drop, eqb};
 ghost use Rattle.image.specs.Entry.{child};
 ghost use Rattle.laws.specs.Encode.{bytes_of};
 ghost use Rattle.octets.specs.Put.{put};
@@ -28,7 +28,7 @@ fn emit_piece(page: &mut [u8], at: usize, num: usize, pivot: &[u8], d: usize) ->
 }
 
 // The pieces of a right part, with the numbers of an edge and of a rest.
-#[derive(Drop)]
+#[derive(Clone, Copy)]
 pub struct Numbered {
     pub parts: Parts,
     pub edge: usize,
@@ -36,7 +36,7 @@ pub struct Numbered {
 }
 
 // A new node: its number, its level, and how many bytes it lifts.
-#[derive(Drop)]
+#[derive(Clone, Copy)]
 pub struct New {
     pub num: usize,
     pub level: usize,
@@ -44,7 +44,7 @@ pub struct New {
 }
 
 // The next children: the cursor at the first, and how many there are at most.
-#[derive(Drop)]
+#[derive(Clone, Copy)]
 pub struct Following {
     pub start: Cursor,
     pub count: usize,

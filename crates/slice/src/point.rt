@@ -1,5 +1,5 @@
 // Where a cut falls among the children of a node. Relies on node's reader of children and on octets; specs/Point says what is sought.
-ghost use Rattle.image.specs.Prelude.{◌∷◌, [], ◌≤◌, ◌<◌, length};
+ghost use Rattle.std.specs.Prelude.{◌∷◌, [], ◌≤◌, ◌<◌, length};
 ghost use Rattle.node.specs.Places.{Within, part};
 ghost use Rattle.node.specs.Entries.{listed};
 ghost use Rattle.node.specs.Search.Own.{branch, branches_among};

@@ -1,6 +1,6 @@
 // The part of a tree from a cut on: wide, an edge and a rest a level; narrow, one node a level. Everything is told from inside a node. Relies on
 // pieces and pairs (which write the pages), on point, on node's reader of children and on octets; `right_write` of specs/Slicing says what is written.
-ghost use Rattle.image.specs.Prelude.{◌≡◌, [], ◌++◌, ◌+◌, ◌*◌, ◌<◌, ◌≤◌, length, take};
+ghost use Rattle.std.specs.Prelude.{◌≡◌, [], ◌++◌, ◌+◌, ◌*◌, ◌<◌, ◌≤◌, length, take};
 ghost use Rattle.image.specs.Bytes.{shared};
 ghost use Rattle.image.specs.Image.{tree_at};
 ghost use Rattle.laws.specs.Reading.Relative.{branch_high};
@@ -45,7 +45,7 @@ fn tell_edge(below: Parts) -> Parts
 
 // A tree to slice: the number and the level of its root, the place in the list of free nodes of the first number that its part takes, and whether the
 // part is wide.
-#[derive(Drop)]
+#[derive(Clone, Copy)]
 pub struct Sliced {
     pub num: usize,
     pub level: usize,
@@ -54,14 +54,14 @@ pub struct Sliced {
 }
 
 // What stands right of a cut in the root of a tree: the pieces of the child that held the cut, and the cursor at the children behind it.
-#[derive(Drop)]
+#[derive(Clone, Copy)]
 struct Layer {
     below: Parts,
     start: Cursor,
 }
 
 // How many bytes an edge lifts, and how many a rest.
-#[derive(Drop)]
+#[derive(Clone, Copy)]
 struct Lifts {
     edge: usize,
     rest: usize,
@@ -235,7 +235,7 @@ fn finish_narrow(
 }
 
 // The children of a node that is sliced: the cut among them, and their level, place and width.
-#[derive(Drop)]
+#[derive(Clone, Copy)]
 struct Split {
     cut: Cut,
     level: usize,

@@ -1,6 +1,7 @@
 -- What the verdict on an image promises, and the law of each way out of the code.
 -- Relies on: tree_check's Callers (all but the live count) and live_count's count of the table.
-use Rattle.image.specs.Prelude.{ℕ, ◌<◌, ◌≤◌, ◌≡◌, refl, sym, ap, ◌∙◌, List, Bool, true, false, ◌&&◌, false≢true, arith, length, eqb, eq-eqb, ne_eqb, eqb-true, eqb-false}
+use Rattle.std.specs.Prelude.{ℕ, ◌<◌, ◌≤◌, ◌≡◌, refl, List, Bool, true, false, ◌&&◌, length, eqb}
+use Rattle.image.specs.Prelude.{sym, ap, ◌∙◌, false≢true, arith, eq-eqb, ne_eqb, eqb-true, eqb-false}
 use Rattle.image.specs.Bytes.{u16}
 use Rattle.image.specs.Image.{nodes_of, whole_nodes, header_of, header}
 use Rattle.image.specs.Sound.{sound, table_of}

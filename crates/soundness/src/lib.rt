@@ -1,6 +1,9 @@
 // Question 2 whole: is the image sound? The tree by one marking walk, then the live count: with no message anywhere it is the number of pairs, which
 // the walk has counted; else one more walk counts the entries that decide. Relies on tree_check (the first walk), live_count (the second) and node.
-ghost use Rattle.image.specs.Prelude.{◌≡◌, true, length};
+
+#![tactic(auto)]
+
+ghost use Rattle.std.specs.Prelude.{◌≡◌, true, length};
 ghost use Rattle.image.specs.Image.{whole_nodes};
 ghost use Rattle.image.specs.Sound.{sound};
 ghost use Rattle.soundness.specs.Judged.{Judged};

@@ -1,6 +1,7 @@
 -- What batch answers as one word of 64 bits: the number in the low 8, the calls done in the next 28, the bytes written in the high 28; and
 -- that they fit there, since an answer is at least 4 bytes. Relies on the contract of a batch (image) alone.
-use Rattle.image.specs.Prelude.{ℕ, zero, suc, ◌/◌, ◌%◌, ◌-◌, ◌≤◌, ◌<◌, ◌≡◌, refl, sym, ap, ◌∙◌, List, [], ◌∷◌, ◌++◌, Bool, true, false, cond, arith, length, take, drop, length-append, length-drop, length-take-le, take_at, drop_at, leb, le-leb, lt-leb, leb-true, leb-false}
+use Rattle.std.specs.Prelude.{ℕ, zero, suc, ◌/◌, ◌%◌, ◌-◌, ◌≤◌, ◌<◌, ◌≡◌, refl, List, [], ◌∷◌, ◌++◌, Bool, true, false, cond, length, take, drop, leb}
+use Rattle.image.specs.Prelude.{sym, ap, ◌∙◌, arith, length-append, length-drop, length-take-le, take_at, drop_at, le-leb, lt-leb, leb-true, leb-false}
 use Rattle.image.specs.Calls.{Call, Answer, number, filled, ask, first_no}
 use Rattle.image.specs.Contract.{Run, stop, call}
 use Rattle.image.specs.Answers.{refusal_limit}

@@ -1,6 +1,7 @@
 -- An answer as one word of 64 bits: the number in the low 32 bits and what stands beside it in the high 32. One law for each arm of the
 -- code, and one that carries get's and next's contract from the enum to the word. Relies on image's numbers of the answers.
-use Rattle.image.specs.Prelude.{ℕ, ◌≤◌, ◌/◌, ◌%◌, ◌≡◌, refl, sym, ap₂, subst, ◌∙◌, List, []}
+use Rattle.std.specs.Prelude.{ℕ, ◌≤◌, ◌/◌, ◌%◌, ◌≡◌, refl, List, []}
+use Rattle.image.specs.Prelude.{sym, ap₂, subst, ◌∙◌}
 use Rattle.image.specs.Calls.{Call, filled, number}
 use Rattle.image.specs.Contract.{Meets}
 use Rattle.image.specs.Path.{path_limit}

@@ -1,6 +1,9 @@
 // The calls for C, whose prototypes stand in include/splicelog.h. Each hands its slices to the call of the same name and turns the answer
 // into numbers. Relies on: make, query, edit, rename, maintain and batch for the calls; requests for the numbers of answers.
-ghost use Rattle.image.specs.Prelude.{◌≤◌, ◌<◌, ◌/◌, ◌%◌, ◌≡◌, []};
+
+#![tactic(auto)]
+
+ghost use Rattle.std.specs.Prelude.{◌≤◌, ◌<◌, ◌/◌, ◌%◌, ◌≡◌, []};
 ghost use Rattle.image.specs.Path.{path_limit};
 ghost use Rattle.image.specs.Image.{most_nodes};
 ghost use Rattle.image.specs.Answers.{refusal_limit, sameness_number, sameness_verdict, verdict_number, verdict_paths};

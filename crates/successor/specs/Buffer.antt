@@ -1,6 +1,7 @@
 -- A path in a buffer of fixed room: what the buffer holds, and what it holds after bytes are appended.
 -- Relies on: the declared struct PathBuffer.
-use Rattle.image.specs.Prelude.{ℕ, List, ◌++◌, cond, Option, none, some, length, take, leb}
+use Rattle.std.specs.Prelude.{ℕ, List, ◌++◌, cond, length, take, leb}
+use Rattle.image.specs.Prelude.{Option, none, some}
 use Rattle.node.specs.declared.PathBuffer.{PathBuffer}
 
 -- the longest path that a buffer holds: as long as the longest well-formed path

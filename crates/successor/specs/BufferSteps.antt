@@ -1,8 +1,9 @@
 -- What a buffer holds, by its length, and the steps of extend's loop.
 -- Relies on: Buffer; a buffer's array has 64 bytes.
-use Rattle.image.specs.Prelude.{ℕ, ◌+◌, ◌<◌, ◌≤◌, ◌≡◌, refl, sym, ap, ◌∙◌, List, [], ◌∷◌, ◌++◌, append-nil, append_assoc, Bool, true, false, Option, none, some, arith, length, take, drop, get_or, set, length-append, length-drop, drop_of_length-le, length-take-le, drop-cons, take-suc-set, leb, leb-true, leb-false, le-leb, lt-leb, add-one}
+use Rattle.std.specs.Prelude.{ℕ, ◌+◌, ◌<◌, ◌≤◌, ◌≡◌, refl, List, [], ◌∷◌, ◌++◌, Bool, true, false, length, take, drop, get_or, set, leb}
+use Rattle.image.specs.Prelude.{sym, ap, ◌∙◌, append-nil, append_assoc, Option, none, some, arith, length-append, length-drop, drop_of_length-le, length-take-le, drop-cons, take-suc-set, leb-true, leb-false, le-leb, lt-leb, add-one}
 use Rattle.node.specs.declared.PathBuffer.{PathBuffer}
-use Rattle.successor.specs.Buffer.{room, fitted, buffer_is, appended}
+use Rattle.successor.specs.Buffer.{fitted, buffer_is, appended}
 
 pub held : (p : PathBuffer) → p.len ≤ 64 → buffer_is p ≡ some (take p.len p.bytes)
 unfolding buffer_is

@@ -1,6 +1,7 @@
 -- For a caller of next: what the buffer that is handed back says, by its length alone.
 -- Relies on: Buffer.
-use Rattle.image.specs.Prelude.{ℕ, ◌<◌, ◌≤◌, ◌≡◌, sym, ◌∙◌, List, none, some, take}
+use Rattle.std.specs.Prelude.{ℕ, ◌<◌, ◌≤◌, ◌≡◌, List, take}
+use Rattle.image.specs.Prelude.{sym, ◌∙◌, none, some}
 use Rattle.image.specs.Table.{least_after}
 use Rattle.image.specs.Sound.{table_of}
 use Rattle.node.specs.declared.PathBuffer.{PathBuffer}

@@ -1,6 +1,7 @@
 -- The paths that a walk comes to, whatever it asks of them: those of a child, of a run of children and of a node, in pieces; and what is ready
 -- of a node is ready of its children. Relies on: the keys of a tree (Seek, SeekHere), the nodes of lookup (leaf-at, interior-at), node's branches.
-use Rattle.image.specs.Prelude.{ℕ, ◌-◌, ◌<◌, ◌≤◌, ◌≡◌, refl, sym, ap, ap₂, subst, ◌∙◌, List, [], ◌∷◌, ◌++◌, append-nil, append_assoc, true, Option, none, some, arith, length, take, drop, length-append, take_at}
+use Rattle.std.specs.Prelude.{ℕ, ◌-◌, ◌<◌, ◌≤◌, ◌≡◌, refl, List, [], ◌∷◌, ◌++◌, true, length, take, drop}
+use Rattle.image.specs.Prelude.{sym, ap, ap₂, subst, ◌∙◌, append-nil, append_assoc, Option, none, some, arith, length-append, take_at}
 use Rattle.image.specs.Bytes.{shared}
 use Rattle.image.specs.Entry as defined
 use Rattle.image.specs.Table.{Row}

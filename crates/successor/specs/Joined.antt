@@ -1,6 +1,7 @@
 -- The order and the beginnings of a path that is given in two parts, a and b, told without joining them.
 -- Relies on: the order's laws (octets/specs/Order).
-use Rattle.image.specs.Prelude.{ℕ, ◌-◌, ◌≤◌, ◌≡◌, refl, sym, ap, ◌∙◌, List, [], ◌∷◌, ◌++◌, Bool, true, false, ◌&&◌, ◌||◌, true≢false, length, take, drop, ltb, eqb, eqb-true, eq-eqb}
+use Rattle.std.specs.Prelude.{ℕ, ◌-◌, ◌≤◌, ◌≡◌, refl, List, [], ◌∷◌, ◌++◌, Bool, true, false, ◌&&◌, ◌||◌, length, take, drop, ltb, eqb}
+use Rattle.image.specs.Prelude.{sym, ap, ◌∙◌, true≢false, eqb-true, eq-eqb}
 use Rattle.image.specs.Bytes.{before, begins}
 use Rattle.octets.specs.Beginnings.{begins-length}
 use Rattle.octets.specs.Order.{not_so, begins-split, begins-append, before-append}

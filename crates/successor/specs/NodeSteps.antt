@@ -1,6 +1,7 @@
 -- The steps of the functions that walk a child, a run of children, and a node: one law for each return.
 -- Relies on: WalkLaws, and on which paths those are (Candidates).
-use Rattle.image.specs.Prelude.{ℕ, ◌-◌, ◌<◌, ◌≤◌, ◌≡◌, sym, ap, ◌∙◌, List, [], ◌∷◌, ◌++◌, Bool, true, Option, length, take, drop}
+use Rattle.std.specs.Prelude.{ℕ, ◌-◌, ◌<◌, ◌≤◌, ◌≡◌, List, [], ◌∷◌, ◌++◌, Bool, true, length, take, drop}
+use Rattle.image.specs.Prelude.{sym, ap, ◌∙◌, Option}
 use Rattle.image.specs.Bytes.{shared, u16}
 use Rattle.image.specs.Entry as defined
 use Rattle.image.specs.Image.{tree_at}

@@ -1,7 +1,8 @@
 -- Present paths of a sound image are well formed, and so at most 64 bytes; the walk from the root over all paths is next, of those that are
 -- unfit for a shape; all are for the dead one.
 -- Relies on: the walk of laws/Reading (Seek, SeekHere), the root of lookup.
-use Rattle.image.specs.Prelude.{ℕ, ◌<◌, ◌≤◌, ◌≡◌, refl, sym, ap, subst, ◌∙◌, List, [], ◌∷◌, Bool, true, false, ◌&&◌, none, some, arith, length, drop}
+use Rattle.std.specs.Prelude.{ℕ, ◌<◌, ◌≤◌, ◌≡◌, refl, List, [], ◌∷◌, Bool, true, false, ◌&&◌, length, drop}
+use Rattle.image.specs.Prelude.{sym, ap, subst, ◌∙◌, none, some, arith}
 use Rattle.image.specs.Bytes.{before, begins, shared, u16}
 use Rattle.image.specs.Path.{well_formed, owns}
 use Rattle.image.specs.Table.{Row, is_some, least_after, leads, rising}

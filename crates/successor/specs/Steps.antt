@@ -1,6 +1,7 @@
 -- The steps of the functions that try a path, an entry, and a list of entries: one law for each return.
 -- Relies on: Walk, WalkLaws, BufferSteps, and that present paths are short (Present).
-use Rattle.image.specs.Prelude.{ℕ, ◌+◌, ◌-◌, ◌<◌, ◌≤◌, ◌≡◌, refl, sym, ap, subst, ◌∙◌, List, [], ◌∷◌, ◌++◌, Bool, true, false, ◌&&◌, not, Option, some, arith, length, take, drop, length-append, not-true, not-false}
+use Rattle.std.specs.Prelude.{ℕ, ◌+◌, ◌-◌, ◌<◌, ◌≤◌, ◌≡◌, refl, List, [], ◌∷◌, ◌++◌, Bool, true, false, ◌&&◌, not, length, take, drop}
+use Rattle.image.specs.Prelude.{sym, ap, subst, ◌∙◌, Option, some, arith, length-append, not-true, not-false}
 use Rattle.image.specs.Bytes.{before, begins}
 use Rattle.image.specs.Entry as defined
 use Rattle.image.specs.Table.{is_some}

@@ -1,6 +1,7 @@
 -- The tests on a path or a range, one law for each return.
 -- Relies on: better and wanted of laws/specs/Reading/Seek, far_from of laws/specs/Reading/Far, the shape of a path fed in parts (path/specs/Shape).
-use Rattle.image.specs.Prelude.{ℕ, ◌-◌, ◌<◌, ◌≤◌, ◌+◌, ◌≡◌, refl, sym, ap, ◌∙◌, List, ◌++◌, Bool, true, false, ◌&&◌, ◌||◌, not, Option, arith, length, take, drop, drop-append-le, drop-append-add, not-true, not-false}
+use Rattle.std.specs.Prelude.{ℕ, ◌-◌, ◌<◌, ◌≤◌, ◌+◌, ◌≡◌, refl, List, ◌++◌, Bool, true, false, ◌&&◌, ◌||◌, not, length, take, drop}
+use Rattle.image.specs.Prelude.{sym, ap, ◌∙◌, Option, arith, drop-append-le, drop-append-add, not-true, not-false}
 use Rattle.image.specs.Bytes.{before, begins}
 use Rattle.path.specs.Shape.{feed, closed, goes_on, feed-append}
 use Rattle.path.specs.Fed.{shape_is}

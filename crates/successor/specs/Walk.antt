@@ -1,6 +1,7 @@
 -- The walk of next as its functions see it: the paths that entries name, the paths under a child and under a run of children, and what
 -- each function may rely on. Relies on: the walk over keys of laws/Reading (Seek, SeekHere), the shape of a path (path/specs/Shape).
-use Rattle.image.specs.Prelude.{ℕ, ◌≡◌, List, [], ◌∷◌, ◌++◌, Bool, true, ◌&&◌, not, Option, length, drop}
+use Rattle.std.specs.Prelude.{ℕ, ◌≡◌, List, [], ◌∷◌, ◌++◌, Bool, true, ◌&&◌, not, length, drop}
+use Rattle.image.specs.Prelude.{Option}
 use Rattle.image.specs.Bytes.{shared}
 use Rattle.image.specs.Entry.{puts, drops, clears, Entry, pair, child, message}
 use Rattle.image.specs.Table.{is_some}

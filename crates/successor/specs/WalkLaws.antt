@@ -1,6 +1,7 @@
 -- The walk in pieces: no path, one path, two lists of paths; a child that is skipped.
 -- Relies on: the walk of laws/Reading (Seek, SeekHere).
-use Rattle.image.specs.Prelude.{ℕ, ◌≡◌, refl, sym, ap, ◌∙◌, List, [], ◌∷◌, ◌++◌, true, Option}
+use Rattle.std.specs.Prelude.{ℕ, ◌≡◌, refl, List, [], ◌∷◌, ◌++◌, true}
+use Rattle.image.specs.Prelude.{sym, ap, ◌∙◌, Option}
 use Rattle.image.specs.Image.{tree_at}
 use Rattle.path.specs.Shape.{Shape}
 use Rattle.laws.specs.Reading.Far.{far_from}

@@ -1,7 +1,10 @@
 // Next as one walk over the tree: the best path so far is carried along, and a child that can hold no better one is not entered. The walk may ask one
 // thing more of a path: that what follows `below` does not go on from a shape. Every path is unfit so for the dead shape. Relies on: a sound store
 // (the caller has checked it), node (the cursor over a node's entries), lookup (from the root), path (shapes) and octets.
-ghost use Rattle.image.specs.Prelude.{◌≡◌, true, [], ◌∷◌, ◌++◌, ◌+◌, ◌≤◌, length};
+
+#![tactic(auto)]
+
+ghost use Rattle.std.specs.Prelude.{◌≡◌, true, [], ◌∷◌, ◌++◌, ◌+◌, ◌≤◌, length};
 ghost use Rattle.image.specs.Bytes.{before, begins};
 ghost use Rattle.image.specs.Table.{least_after};
 ghost use Rattle.image.specs.Sound.{sound, table_of};
@@ -188,7 +191,7 @@ pub fn try_path(
 }
 
 // The suffix of an entry that may hold a value: of a pair or of a put.
-#[derive(Drop)]
+#[derive(Clone, Copy)]
 pub enum Suffix {
     At(Place),
     Other,
@@ -237,7 +240,7 @@ pub fn try_entry(
 }
 
 // A node that the walk comes to, by its number and level, and what it seeks there: the shape, and the best path so far.
-#[derive(Drop)]
+#[derive(Clone, Copy)]
 pub struct Visit {
     pub num: usize,
     pub level: usize,

@@ -1,6 +1,7 @@
 -- The plan of a swing from what it asks: the laws of slice/Moving, with the list of free nodes as the code reads it; and its image as `swung_with`.
 -- Relies on slice/Moving's laws of the supply of free nodes.
-use Rattle.image.specs.Prelude.{ℕ, zero, suc, ◌+◌, ◌*◌, ◌-◌, ◌/◌, ◌≤◌, ◌<◌, ◌≡◌, refl, sym, ap, ap₂, subst, ◌∙◌, List, [], Bool, true, false, arith, length, get_or, take, drop, take_at, leb, leb-true, leb-false}
+use Rattle.std.specs.Prelude.{ℕ, zero, suc, ◌+◌, ◌*◌, ◌-◌, ◌/◌, ◌≤◌, ◌<◌, ◌≡◌, refl, List, [], Bool, true, false, length, get_or, take, drop, leb}
+use Rattle.image.specs.Prelude.{sym, ap, ap₂, subst, ◌∙◌, arith, take_at, leb-true, leb-false}
 use Rattle.image.specs.Bytes.{u16, before}
 use Rattle.image.specs.Path.{well_formed}
 use Rattle.image.specs.Image.{node_bytes, nodes_of, header_of, tree_of}

@@ -1,6 +1,7 @@
 -- The swing from its steps: what each call in it asks, and that the image at its end is slice/Moving's.
 -- Relies on Steps (what the plan gives), RootLaws (the new root's page) and laws' Page (node 0).
-use Rattle.image.specs.Prelude.{ℕ, suc, ◌+◌, ◌*◌, ◌-◌, ◌/◌, ◌≤◌, ◌<◌, ◌≡◌, refl, sym, ap, ap₂, subst, ◌∙◌, List, [], Bool, arith, length}
+use Rattle.std.specs.Prelude.{ℕ, suc, ◌+◌, ◌*◌, ◌-◌, ◌/◌, ◌≤◌, ◌<◌, ◌≡◌, refl, List, [], Bool, length}
+use Rattle.image.specs.Prelude.{sym, ap, ap₂, subst, ◌∙◌, arith}
 use Rattle.image.specs.Bytes.{u16}
 use Rattle.image.specs.Image.{nodes_of, header_of, tree_of}
 use Rattle.laws.specs.Page.{page, page-length, number_of, branches_of, head_page}

@@ -1,5 +1,6 @@
 -- The steps of the code of a swing, one law for each call and each way out. Relies on Cuts and Root (what is asked and written) and on octets' Put.
-use Rattle.image.specs.Prelude.{ℕ, ◌+◌, ◌*◌, ◌-◌, ◌≤◌, ◌<◌, ◌≡◌, refl, sym, ap, ap₂, subst, ◌∙◌, List, [], ◌∷◌, ◌++◌, Bool, true, false, arith, length, take, drop, set, length-append}
+use Rattle.std.specs.Prelude.{ℕ, ◌+◌, ◌*◌, ◌-◌, ◌≤◌, ◌<◌, ◌≡◌, refl, List, [], ◌∷◌, ◌++◌, Bool, true, false, length, take, drop, set}
+use Rattle.image.specs.Prelude.{sym, ap, ap₂, subst, ◌∙◌, arith, length-append}
 use Rattle.image.specs.Bytes.{u16, u16_bytes}
 use Rattle.image.specs.Entry.{child}
 use Rattle.image.specs.Image.{header_of, tree_at}

@@ -1,6 +1,6 @@
 -- The images between the cuts of a swing, each computed from the store that a step is handed; what each step asks, and what it tells.
 -- Definitions only, over slice/Slicing's functions on images.
-use Rattle.image.specs.Prelude.{ℕ, ◌+◌, ◌*◌, ◌-◌, ◌≤◌, ◌≡◌, List, [], Bool, true, false, cond, length, take}
+use Rattle.std.specs.Prelude.{ℕ, ◌+◌, ◌*◌, ◌-◌, ◌≤◌, ◌≡◌, List, [], Bool, true, false, cond, length, take}
 use Rattle.image.specs.Image.{header_of, tree_at}
 use Rattle.image.specs.Sound.{highest}
 use Rattle.laws.specs.Page.{branches_of}

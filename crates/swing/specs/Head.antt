@@ -1,6 +1,7 @@
 -- Node 0 after a move: written with the old live count, and then the count made right.
 -- Relies on laws' page of node 0 and on append's Laws (the live count written).
-use Rattle.image.specs.Prelude.{ℕ, suc, ◌*◌, ◌≡◌, refl, sym, List, length}
+use Rattle.std.specs.Prelude.{ℕ, suc, ◌*◌, ◌≡◌, refl, List, length}
+use Rattle.image.specs.Prelude.{sym}
 use Rattle.image.specs.Table.{moved}
 use Rattle.image.specs.Image.{nodes_of, header_of, tree_of}
 use Rattle.image.specs.Sound.{table_of}

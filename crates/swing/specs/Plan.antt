@@ -1,5 +1,5 @@
 -- The swing as a function on images, for both directions at once; what it asks of a store; and what its steps rely on. Definitions only.
-use Rattle.image.specs.Prelude.{ℕ, suc, ◌+◌, ◌*◌, ◌/◌, ◌≤◌, ◌<◌, ◌≡◌, List, [], Bool, true, false, cond, length}
+use Rattle.std.specs.Prelude.{ℕ, suc, ◌+◌, ◌*◌, ◌/◌, ◌≤◌, ◌<◌, ◌≡◌, List, [], Bool, true, false, cond, length}
 use Rattle.image.specs.Bytes.{before, begins}
 use Rattle.image.specs.Entry.{pivot_limit}
 use Rattle.image.specs.Path.{well_formed}

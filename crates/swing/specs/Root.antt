@@ -1,5 +1,5 @@
 -- The bytes of the new root's entries, and what its writer asks. Definitions only.
-use Rattle.image.specs.Prelude.{ℕ, ◌+◌, ◌*◌, ◌≤◌, ◌<◌, List, [], ◌++◌, length}
+use Rattle.std.specs.Prelude.{ℕ, ◌+◌, ◌*◌, ◌≤◌, ◌<◌, List, [], ◌++◌, length}
 use Rattle.image.specs.Entry.{child}
 use Rattle.laws.specs.Encode.{bytes_of}
 use Rattle.slice.specs.declared.Parts.{Parts}

@@ -1,6 +1,7 @@
 -- What the root's writer writes is the page of the move's root: slice/Moving's pieces, as the bytes of Root.
 -- Relies on slice/Moving's definitions of the pieces, and on slice/Slicing's of a right part.
-use Rattle.image.specs.Prelude.{ℕ, suc, ◌≤◌, ◌≡◌, refl, sym, ap, ap₂, ◌∙◌, List, [], ◌∷◌, ◌++◌, append_assoc, true, false, false≢true, arith, length, leb-true}
+use Rattle.std.specs.Prelude.{ℕ, suc, ◌≤◌, ◌≡◌, refl, List, [], ◌∷◌, ◌++◌, true, false, length}
+use Rattle.image.specs.Prelude.{sym, ap, ap₂, ◌∙◌, append_assoc, false≢true, arith, leb-true}
 use Rattle.image.specs.Bytes.{shared}
 use Rattle.image.specs.Entry.{child}
 use Rattle.image.specs.Image.{Tree, unread, leaf, interior, Forest, end, tree, Branch}

@@ -1,6 +1,7 @@
 -- What each step of a swing asks, from the plan; and the image that it leaves, as slice/Moving's laws have it.
 -- Relies on slice/Moving's MoveWrite (what is read between the cuts) and on slice's Callers.
-use Rattle.image.specs.Prelude.{ℕ, suc, ◌+◌, ◌*◌, ◌-◌, ◌≤◌, ◌≡◌, refl, sym, ap, ap₂, subst, ◌∙◌, List, [], Bool, true, false, ◌||◌, arith, length, take, length-append, take_at}
+use Rattle.std.specs.Prelude.{ℕ, suc, ◌+◌, ◌*◌, ◌-◌, ◌≤◌, ◌≡◌, refl, List, [], Bool, true, false, ◌||◌, length, take}
+use Rattle.image.specs.Prelude.{sym, ap, ap₂, subst, ◌∙◌, arith, length-append, take_at}
 use Rattle.image.specs.Bytes.{before, begins}
 use Rattle.image.specs.Entry.{pivot_limit}
 use Rattle.image.specs.Image.{Tree, nodes_of, header_of, tree_at, tree_of}

@@ -1,10 +1,13 @@
 // The swing of a move on a settled store: its tree is cut at the ends of two ranges, the largest cut first, each next one on what lies left of the
 // last; the pieces go under a new root, those of `from` in the place of `to`; node 0 is written last. Every other node that is written was free.
 // Relies on slice (the cuts and the empty chain), root (the new root's page), node (node 0) and octets.
+
+#![tactic(auto)]
+
 mod root;
 pub mod spare;
 
-ghost use Rattle.image.specs.Prelude.{◌≡◌, ◌*◌, ◌≤◌, ◌<◌, length};
+ghost use Rattle.std.specs.Prelude.{◌≡◌, ◌*◌, ◌≤◌, ◌<◌, length};
 ghost use Rattle.octets.specs.Put.{put};
 ghost use Rattle.slice.specs.Slicing.Range.{past};
 ghost use Rattle.swing.specs.Cuts.{RangeAsks, RangeAs, BothAsks, BothAs, OutAsks, out_in, TakeAsks, taken_out, low_place};
@@ -19,7 +22,7 @@ use slice::{Parts, Slot};
 // moves, 9 the empty chain; the number after them, 10 h, is the new root's.
 
 // What lies right of the two cut ranges.
-#[derive(Drop)]
+#[derive(Clone, Copy)]
 pub struct Cuts {
     pub low: Parts,
     pub high: Parts,

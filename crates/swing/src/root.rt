@@ -1,6 +1,6 @@
 // The new root of a move: what lies left of both ranges, then for each range the node under its path and the pieces behind it. It knows ends of
 // ranges and numbers only: the same for a move up and a move down. Relies on slice (the pieces), node's writer and octets.
-ghost use Rattle.image.specs.Prelude.{◌≡◌, ◌+◌, ◌*◌, ◌<◌, ◌≤◌, length};
+ghost use Rattle.std.specs.Prelude.{◌≡◌, ◌+◌, ◌*◌, ◌<◌, ◌≤◌, length};
 ghost use Rattle.octets.specs.Put.{put};
 ghost use Rattle.laws.specs.Page.{page};
 ghost use Rattle.laws.specs.WriteNode.{write_node};
@@ -12,7 +12,7 @@ use slice::Parts;
 use slice::pieces::Numbered;
 
 // Half of a new root: the number of the node under a path, and the pieces behind its range, with the numbers of an edge and of a rest.
-#[derive(Drop)]
+#[derive(Clone, Copy)]
 pub struct Half {
     pub number: usize,
     pub edge: usize,
@@ -21,7 +21,7 @@ pub struct Half {
 }
 
 // Both halves of a new root, and how many levels lie under it.
-#[derive(Drop)]
+#[derive(Clone, Copy)]
 pub struct Halves {
     pub levels: usize,
     pub low: Half,

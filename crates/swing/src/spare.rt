@@ -1,6 +1,6 @@
 // The free nodes of a store, listed from the marks of the nodes in use: rising, two bytes each.
 // Relies on octets for the two-byte numbers; the marks are those of tree_check, and specs/Spare joins them to the free nodes of slice/Moving.
-ghost use Rattle.image.specs.Prelude.{◌≡◌, ◌++◌, ◌+◌, ◌*◌, ◌-◌, ◌<◌, ◌≤◌, length};
+ghost use Rattle.std.specs.Prelude.{◌≡◌, ◌++◌, ◌+◌, ◌*◌, ◌-◌, ◌<◌, ◌≤◌, length};
 ghost use Rattle.packed.specs.Build.Handed.{listed};
 ghost use Rattle.swing.specs.Spare.Spare.{unmarked};
 

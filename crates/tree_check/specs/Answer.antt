@@ -1,6 +1,7 @@
 -- What an answer of the check promises: the marks that the definition's walk leaves, and the counts of the tree.
 -- Relies on Count. Each promise has a law that makes it and one that uses it, so that no proof of code unfolds it.
-use Rattle.image.specs.Prelude.{ℕ, ◌≡◌, refl, sym, subst, ◌∙◌, List, Option, none, some}
+use Rattle.std.specs.Prelude.{ℕ, ◌≡◌, refl, List}
+use Rattle.image.specs.Prelude.{sym, subst, ◌∙◌, Option, none, some}
 use Rattle.tree_check.specs.declared.Tally.{Tally}
 use Rattle.tree_check.specs.declared.Checked.{Checked}
 use Rattle.tree_check.specs.Count.{Count, capped, tally_sum}

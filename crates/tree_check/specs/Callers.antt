@@ -1,6 +1,7 @@
 -- Laws for those who call the check: what its answer says of `sound`, of the live count, of `settled` and of the nodes in use.
 -- Relies on Whole and on the laws of a tree with no message (laws: LiveCount).
-use Rattle.image.specs.Prelude.{ℕ, suc, ◌+◌, ◌<◌, ◌≤◌, ◌≡◌, refl, sym, ap, ap₂, subst, ◌∙◌, List, [], ◌∷◌, Bool, true, false, ◌&&◌, false≢true, arith, length, leb, eqb, eq-eqb, ne_eqb, eqb-true, eqb-false, leb-true, leb-false, le-leb}
+use Rattle.std.specs.Prelude.{ℕ, suc, ◌+◌, ◌<◌, ◌≤◌, ◌≡◌, refl, List, [], ◌∷◌, Bool, true, false, ◌&&◌, length, leb, eqb}
+use Rattle.image.specs.Prelude.{sym, ap, ap₂, subst, ◌∙◌, false≢true, arith, eq-eqb, ne_eqb, eqb-true, eqb-false, leb-true, leb-false, le-leb}
 use Rattle.image.specs.Image.{Tree, unread, leaf, interior, Forest, end, tree, nodes_of, header_of, tree_of}
 use Rattle.image.specs.Sound.{sound, numbers, lowest, highest, table_of}
 use Rattle.image.specs.Upkeep.{reachable, reachable_nodes, every, holds_no_message, settled}

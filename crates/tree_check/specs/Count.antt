@@ -1,6 +1,6 @@
 -- What the check counts in a tree: pairs, waiting messages and nodes, each shown up to 65,535 so that no sum of the code can overflow.
 -- Relies on the tree of image (Image), its numbers (Sound) and its pairs (laws: LiveCount). Definitions only.
-use Rattle.image.specs.Prelude.{ℕ, ◌+◌, List, [], ◌∷◌, length}
+use Rattle.std.specs.Prelude.{ℕ, ◌+◌, List, [], ◌∷◌, length}
 use Rattle.image.specs.Entry as defined
 use Rattle.image.specs.Image.{Tree, unread, leaf, interior, Forest, end, tree}
 use Rattle.image.specs.Sound.{numbers, numbers_in}

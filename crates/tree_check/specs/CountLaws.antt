@@ -1,6 +1,7 @@
 -- Sums of counts, also capped, and what the entries of a node hold.
 -- Relies on Count and on image's tree of entries.
-use Rattle.image.specs.Prelude.{ℕ, suc, ◌+◌, ◌≡◌, refl, sym, ap, ap₂, subst, ◌∙◌, List, [], ◌∷◌, ◌++◌, Option, none, some, arith, length, length-append}
+use Rattle.std.specs.Prelude.{ℕ, suc, ◌+◌, ◌≡◌, refl, List, [], ◌∷◌, ◌++◌, length}
+use Rattle.image.specs.Prelude.{sym, ap, ap₂, subst, ◌∙◌, Option, none, some, arith, length-append}
 use Rattle.image.specs.Entry as defined
 use Rattle.image.specs.Table.{Row}
 use Rattle.image.specs.Image.{Tree, leaf, interior, Forest, end, tree, Inside, pair_then, pairs_of, message_then, messages_of, no_branches, branch_then, inside_of, forest_of}

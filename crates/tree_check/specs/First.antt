@@ -1,6 +1,7 @@
 -- What the reader of an interior node's first entry promises: the first child, whose pivot is the node's own low one, or that there is none.
 -- Relies on Walk and Layout.
-use Rattle.image.specs.Prelude.{ℕ, zero, suc, ◌+◌, ◌-◌, ◌*◌, ◌≤◌, ◌≡◌, refl, sym, ap, subst, ◌∙◌, List, [], Bool, true, false, Option, none, some, arith, length}
+use Rattle.std.specs.Prelude.{ℕ, zero, suc, ◌+◌, ◌-◌, ◌*◌, ◌≤◌, ◌≡◌, refl, List, [], Bool, true, false, length}
+use Rattle.image.specs.Prelude.{sym, ap, subst, ◌∙◌, Option, none, some, arith}
 use Rattle.image.specs.Bytes.{same}
 use Rattle.image.specs.Entry as defined
 use Rattle.image.specs.Image.{node_bytes, laid_out, node_entries}

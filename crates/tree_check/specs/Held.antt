@@ -1,6 +1,7 @@
 -- What the check of a list of children is lent as plain numbers, the tally so far and its parent, and what it promises of the list.
 -- Relies on Answer and Sequence.
-use Rattle.image.specs.Prelude.{ℕ, ◌≡◌, refl, sym, ap, List, [], ◌∷◌, Bool, true, false, cond, Option, get_or, eqb, eq-eqb, ne_eqb}
+use Rattle.std.specs.Prelude.{ℕ, ◌≡◌, refl, List, [], ◌∷◌, Bool, true, false, cond, get_or, eqb}
+use Rattle.image.specs.Prelude.{sym, ap, Option, eq-eqb, ne_eqb}
 use Rattle.path.specs.declared.Shape.{Shape}
 use Rattle.tree_check.specs.declared.lent.Parent.{Parent}
 use Rattle.tree_check.specs.declared.Tally.{Tally}

@@ -1,6 +1,7 @@
 -- The exits of the check of a list of children, which adds to a tally that it is lent.
 -- Relies on Held and on ChildSteps.
-use Rattle.image.specs.Prelude.{ℕ, ◌<◌, ◌≤◌, ◌≡◌, refl, sym, subst, List, Bool, true, false, Option, arith}
+use Rattle.std.specs.Prelude.{ℕ, ◌<◌, ◌≤◌, ◌≡◌, refl, List, Bool, true, false}
+use Rattle.image.specs.Prelude.{sym, subst, Option, arith}
 use Rattle.image.specs.Image.{tree_at}
 use Rattle.path.specs.Shape.{Shape}
 use Rattle.path.specs.Fed.{shape_is}

@@ -1,6 +1,7 @@
 -- The layout of a node and of node 0, read at its place in the store.
 -- Relies on image's layout (Image) and on lookup's laws of a node's bytes.
-use Rattle.image.specs.Prelude.{ℕ, suc, ◌+◌, ◌-◌, ◌*◌, ◌/◌, ◌<◌, ◌≤◌, ◌≡◌, refl, sym, ap, ap₂, ◌∙◌, List, ◌∷◌, Bool, true, false, ◌&&◌, and-true, none, some, arith, length, take, drop, get_or, drop-cons, leb, eqb, le-leb, lt-leb, eq-eqb, ne_eqb, eqb-true, add-one}
+use Rattle.std.specs.Prelude.{ℕ, suc, ◌+◌, ◌-◌, ◌*◌, ◌/◌, ◌<◌, ◌≤◌, ◌≡◌, refl, List, ◌∷◌, Bool, true, false, ◌&&◌, length, take, drop, get_or, leb, eqb}
+use Rattle.image.specs.Prelude.{sym, ap, ap₂, ◌∙◌, and-true, none, some, arith, drop-cons, le-leb, lt-leb, eq-eqb, ne_eqb, eqb-true, add-one}
 use Rattle.image.specs.Bytes.{u16, zeros}
 use Rattle.image.specs.Entry as defined
 use Rattle.image.specs.Image.{node_bytes, nodes_of, laid_out, node_entries}

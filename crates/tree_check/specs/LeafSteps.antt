@@ -1,6 +1,7 @@
 -- The exits of the check of a leaf.
 -- Relies on Walk (what the walk is for a leaf) and Layout (where its entries stand).
-use Rattle.image.specs.Prelude.{ℕ, ◌+◌, ◌*◌, ◌≤◌, ◌≡◌, refl, sym, ap, ◌∙◌, List, Bool, true, false, cond, Option, none, some, length}
+use Rattle.std.specs.Prelude.{ℕ, ◌+◌, ◌*◌, ◌≤◌, ◌≡◌, refl, List, Bool, true, false, cond, length}
+use Rattle.image.specs.Prelude.{sym, ap, ◌∙◌, Option, none, some}
 use Rattle.image.specs.Entry as defined
 use Rattle.image.specs.Image.{node_bytes, laid_out, node_entries, pairs_of, or_none, leaf_of, tree_at}
 use Rattle.path.specs.Shape.{Shape}

@@ -1,6 +1,7 @@
 -- The walk that marks a sound store: what it leaves of a tree, and one law for each step of its code.
 -- Relies on laws/Reading (`mark_all`, `usable`), on lookup's view of a usable node, and on RootSteps and Callers for the store as a whole.
-use Rattle.image.specs.Prelude.{ℕ, ◌-◌, ◌<◌, ◌≤◌, ◌≡◌, refl, sym, ap, ap₂, subst, ◌∙◌, List, [], ◌∷◌, Bool, true, false, ◌&&◌, and-true, Option, none, some, arith, length, set}
+use Rattle.std.specs.Prelude.{ℕ, ◌-◌, ◌<◌, ◌≤◌, ◌≡◌, refl, List, [], ◌∷◌, Bool, true, false, ◌&&◌, length, set}
+use Rattle.image.specs.Prelude.{sym, ap, ap₂, subst, ◌∙◌, and-true, Option, none, some, arith}
 use Rattle.image.specs.Bytes.{u16}
 use Rattle.image.specs.Entry as defined
 use Rattle.image.specs.Table.{Row}

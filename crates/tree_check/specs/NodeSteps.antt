@@ -1,6 +1,7 @@
 -- The exits of the check of a node.
 -- Relies on Walk, First and Held.
-use Rattle.image.specs.Prelude.{ℕ, zero, suc, ◌-◌, ◌<◌, ◌≤◌, ◌≡◌, refl, sym, ap, subst, ◌∙◌, List, [], ◌∷◌, Bool, true, false, cond, Option, none, some, arith, length, get_or, set}
+use Rattle.std.specs.Prelude.{ℕ, zero, suc, ◌-◌, ◌<◌, ◌≤◌, ◌≡◌, refl, List, [], ◌∷◌, Bool, true, false, cond, length, get_or, set}
+use Rattle.image.specs.Prelude.{sym, ap, subst, ◌∙◌, Option, none, some, arith}
 use Rattle.image.specs.Image.{Tree, node_bytes, nodes_of, node_entries, inside_of, or_none, interior_of, tree_at}
 use Rattle.path.specs.Shape.{Shape}
 use Rattle.path.specs.Fed.{shape_is}

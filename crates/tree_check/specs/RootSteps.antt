@@ -1,6 +1,7 @@
 -- The exits of the check of node 0 and of the check of an image.
 -- Relies on Whole, and on laws/Reading's law of the walk from the root with no mark set (`visit-root`).
-use Rattle.image.specs.Prelude.{ℕ, ◌+◌, ◌*◌, ◌<◌, ◌≤◌, ◌≡◌, refl, sym, ap, ap₂, subst, ◌∙◌, List, [], ◌∷◌, Bool, true, false, ◌&&◌, ◌||◌, cond, and-true, none, some, arith, length, drop, get_or, set, length-set, length-replicate, get_or-set_same, get_or-set_other, ext_get_or, ltb, leb, eqb, lt-ltb, le-ltb, le-leb, lt-leb, eq-eqb, ne_eqb, eqb-true, eqb-false, ltb-true}
+use Rattle.std.specs.Prelude.{ℕ, ◌+◌, ◌*◌, ◌<◌, ◌≤◌, ◌≡◌, refl, List, [], ◌∷◌, Bool, true, false, ◌&&◌, ◌||◌, cond, length, drop, get_or, set, ltb, leb, eqb}
+use Rattle.image.specs.Prelude.{sym, ap, ap₂, subst, ◌∙◌, and-true, none, some, arith, length-set, length-replicate, get_or-set_same, get_or-set_other, ext_get_or, lt-ltb, le-ltb, le-leb, lt-leb, eq-eqb, ne_eqb, eqb-true, eqb-false, ltb-true}
 use Rattle.image.specs.Bytes.{u16, zeros}
 use Rattle.image.specs.Image.{Tree, node_bytes, nodes_of, header, header_of, header_laid_out, tree_at, tree_of}
 use Rattle.image.specs.Sound.{sound_tree, sound_header, once, in_range, numbers, is_in, lowest, highest}

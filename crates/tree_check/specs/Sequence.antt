@@ -1,6 +1,7 @@
 -- Checks one after another: each starts from the marks of the one before it, and the counts add up.
 -- Relies on Answer.
-use Rattle.image.specs.Prelude.{ℕ, ◌≡◌, refl, sym, ap, ◌∙◌, List, Option, none, some}
+use Rattle.std.specs.Prelude.{ℕ, ◌≡◌, refl, List}
+use Rattle.image.specs.Prelude.{sym, ap, ◌∙◌, Option, none, some}
 use Rattle.laws.specs.Reading.Visit.{onward}
 use Rattle.tree_check.specs.declared.Tally.{Tally}
 use Rattle.tree_check.specs.declared.Checked.{Checked}

@@ -1,6 +1,7 @@
 -- The check of one node by its entries: what the walk of laws/Reading (Visit) is for a leaf and for an interior node of an image.
 -- Relies on the walks over pairs (Node/Leaf) and over children and messages (Node/Inside).
-use Rattle.image.specs.Prelude.{ℕ, zero, suc, ◌<◌, ◌≤◌, ◌≡◌, refl, sym, ap, ◌∙◌, List, [], ◌∷◌, Bool, true, false, ◌&&◌, cond, Option, none, some, arith, length, get_or, set, ltb, leb, eqb, lt-ltb, le-ltb, le-leb, lt-leb, eq-eqb, ne_eqb}
+use Rattle.std.specs.Prelude.{ℕ, zero, suc, ◌<◌, ◌≤◌, ◌≡◌, refl, List, [], ◌∷◌, Bool, true, false, ◌&&◌, cond, length, get_or, set, ltb, leb, eqb}
+use Rattle.image.specs.Prelude.{sym, ap, ◌∙◌, Option, none, some, arith, lt-ltb, le-ltb, le-leb, lt-leb, eq-eqb, ne_eqb}
 use Rattle.image.specs.Bytes.{same}
 use Rattle.image.specs.Entry as defined
 use Rattle.image.specs.Table.{Row}

@@ -1,6 +1,6 @@
 -- The whole check: all that makes an image sound but its live count, and what the check of an image promises.
 -- Relies on image's `sound` and on Count and Answer. Definitions only.
-use Rattle.image.specs.Prelude.{ℕ, ◌<◌, ◌≡◌, List, Bool, true, false, cond, length, get_or}
+use Rattle.std.specs.Prelude.{ℕ, ◌<◌, ◌≡◌, List, Bool, true, false, cond, length, get_or}
 use Rattle.image.specs.Image.{nodes_of, tree_of}
 use Rattle.image.specs.Sound.{numbers, is_in}
 use Rattle.laws.specs.ButLive.{sound_but_live}

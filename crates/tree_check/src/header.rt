@@ -1,6 +1,6 @@
 // The headers of nodes: whether node 0 is as the length of the store asks for, and whether a node is laid out as one of a kind and level.
 // Relies on node's reader of headers and on octets; what a node's entries say is node_check's matter.
-ghost use Rattle.image.specs.Prelude.{◌≡◌, ◌&&◌, ◌≤◌, length, eqb};
+ghost use Rattle.std.specs.Prelude.{◌≡◌, ◌&&◌, ◌≤◌, length, eqb};
 ghost use Rattle.image.specs.Bytes.{zeros};
 ghost use Rattle.image.specs.Image.{nodes_of, node_bytes, laid_out};
 ghost use Rattle.laws.specs.ButLive.{sound_head};

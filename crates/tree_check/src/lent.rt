@@ -1,6 +1,6 @@
 // What the check of a list of children is lent as plain numbers: the tally so far, and what the children's parent shares with them.
 // Relies on the walk's own structs, on node's Place and on path's Shape; specs/Held says what the numbers stand for.
-ghost use Rattle.image.specs.Prelude.{◌≡◌};
+ghost use Rattle.std.specs.Prelude.{◌≡◌};
 ghost use Rattle.tree_check.specs.Answer.{with_rest};
 ghost use Rattle.tree_check.specs.Held.{tally_is, answer_is, parent_is};
 
@@ -32,7 +32,7 @@ pub fn hold(held: &mut [usize; 3], found: Checked) -> bool
 }
 
 // What the children of a node share: their level, the end of the node's entries, the place of its own low pivot, and the shape of what it lifts.
-#[derive(Drop)]
+#[derive(Clone, Copy)]
 pub struct Parent {
     pub level: usize,
     pub end: usize,

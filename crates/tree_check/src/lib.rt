@@ -1,12 +1,16 @@
 // Question 2 but for the live count: one marking walk over the tree, in which the check of a node and that of its children call each other. It reads
 // any store of at least one node, and counts pairs and messages. Relies on header and node_check for what one node holds, lent (what a list of
 // children is lent), node (the cursor), path and octets.
+
+#![tactic(auto)]
+
 pub mod header;
 pub mod lent;
 pub mod marks;
 pub mod node_check;
 
-ghost use Rattle.image.specs.Prelude.{◌≡◌, cond, List, none, some, ℕ, ◌≤◌, length};
+ghost use Rattle.std.specs.Prelude.{◌≡◌, cond, List, ℕ, ◌≤◌, length};
+ghost use Rattle.image.specs.Prelude.{none, some};
 ghost use Rattle.image.specs.Image.{nodes_of, tree_at};
 ghost use Rattle.laws.specs.Reading.SoundHere.{sound_here};
 ghost use Rattle.laws.specs.Reading.Visit.{visit, blank};
@@ -29,21 +33,21 @@ use node_check::Counted;
 use path::Shape;
 
 // What a sound tree holds, each number shown up to 65,535.
-#[derive(Drop)]
+#[derive(Clone, Copy)]
 pub struct Tally {
     pub pairs: usize,
     pub messages: usize,
     pub nodes: usize,
 }
 
-#[derive(Drop)]
+#[derive(Clone, Copy)]
 pub enum Checked {
     Unsound,
     Sound(Tally),
 }
 
 // The first child of an interior node: its number, its pivot, and the cursor past it.
-#[derive(Drop)]
+#[derive(Clone, Copy)]
 pub enum First {
     Child(usize, Place, Cursor),
     Nothing,
@@ -134,7 +138,7 @@ pub fn check_messages(s: &[u8], from: usize, end: usize, lo: &[u8], hi: &[u8], s
 }
 
 // A child in the list of its parent: its number, and where the entry after it starts.
-#[derive(Drop)]
+#[derive(Clone, Copy)]
 pub struct ChildAt {
     pub num: usize,
     pub next: usize,

@@ -1,7 +1,7 @@
 // The nodes in use of a store that is known to be sound, marked by a walk that reads interior nodes only: a leaf is marked by its parent's
 // entry, and nothing is judged again. The walk tells too whether a message waits anywhere.
 // Relies on node (the cursor over a node's entries) and on laws/Reading (`usable`: what a reader of a sound store may rely on).
-ghost use Rattle.image.specs.Prelude.{◌≡◌, true, ◌&&◌, ◌≤◌, length};
+ghost use Rattle.std.specs.Prelude.{◌≡◌, true, ◌&&◌, ◌≤◌, length};
 ghost use Rattle.image.specs.Image.{whole_nodes, nodes_of, tree_at};
 ghost use Rattle.image.specs.Sound.{sound};
 ghost use Rattle.image.specs.Upkeep.{settled};

@@ -1,6 +1,7 @@
 // Whether a leaf, and the messages of an interior node, are sound, and how many entries each has: one walk tells both.
 // Relies on node for the entries, on octets for their order and on path for the shape of their keys.
-ghost use Rattle.image.specs.Prelude.{◌≡◌, ◌≤◌, length, none};
+ghost use Rattle.std.specs.Prelude.{◌≡◌, ◌≤◌, length};
+ghost use Rattle.image.specs.Prelude.{none};
 ghost use Rattle.node.specs.Places.{Within, MessageWithin, part, message_in};
 ghost use Rattle.laws.specs.Reading.SoundHere.{message_here};
 ghost use Rattle.tree_check.specs.Node.Inside.{messages_run};
@@ -15,14 +16,14 @@ use node::{Cursor, Entry, Message, PairStep, Place, Step};
 use path::Shape;
 
 // That an entry is not sound; or that all are, and how many, shown up to 65,535.
-#[derive(Drop)]
+#[derive(Clone, Copy)]
 pub enum Counted {
     Bad,
     All(usize),
 }
 
 // The key before this one.
-#[derive(Drop)]
+#[derive(Clone, Copy)]
 pub enum Prev {
     Start,
     Key(Place),
@@ -98,7 +99,7 @@ pub fn check_leaf(s: &[u8], from: usize, end: usize, lo: &[u8], hi: &[u8], sh: S
 }
 
 // A message of an interior node.
-#[derive(Drop)]
+#[derive(Clone, Copy)]
 pub enum Note {
     Of(Message),
     Other,

@@ -1,6 +1,7 @@
 -- A message appended to the root: the bytes that stand there afterwards, and that they are sound and mean the table after the message.
 -- Relies on Grown for the node that is written, and on laws' Frame for the nodes that are not. The live count is written later: see SetLive.
-use Rattle.image.specs.Prelude.{ℕ, zero, suc, ◌+◌, ◌*◌, ◌≤◌, ◌<◌, ◌≡◌, refl, sym, ap, ap₂, subst, ◌∙◌, List, [], ◌∷◌, ◌++◌, Bool, true, ◌&&◌, false≢true, Option, none, some, arith, length, leb, leb-true}
+use Rattle.std.specs.Prelude.{ℕ, zero, suc, ◌+◌, ◌*◌, ◌≤◌, ◌<◌, ◌≡◌, refl, List, [], ◌∷◌, ◌++◌, Bool, true, ◌&&◌, length, leb}
+use Rattle.image.specs.Prelude.{sym, ap, ap₂, subst, ◌∙◌, false≢true, Option, none, some, arith, leb-true}
 use Rattle.image.specs.Bytes.{u16, u16_bytes, shared}
 use Rattle.image.specs.Entry.{Message, Entry, message}
 use Rattle.image.specs.Image.{unread, interior, Forest, Inside, header, node_bytes, nodes_of, node_entries, inside_of, forest_of, interior_of, or_none, tree_at, header_of, header_laid_out, tree_of}

@@ -1,6 +1,7 @@
 -- One entry written after the others of a node: the node reads as before, with that entry last.
 -- Relies on InNode for the bytes, and on laws' Encode for the one entry.
-use Rattle.image.specs.Prelude.{ℕ, zero, suc, ◌+◌, ◌≤◌, ◌≡◌, refl, sym, ap, ap₂, ◌∙◌, List, [], ◌∷◌, ◌++◌, append_assoc, append-nil, Bool, true, false, ◌&&◌, Option, none, some, Option·some-injective, Option·none-ne-some, arith, length, take, drop, length-append, length-drop, take_at, drop_at, drop-drop, take-add, length-take-le, leb, eqb, le-leb}
+use Rattle.std.specs.Prelude.{ℕ, zero, suc, ◌+◌, ◌≤◌, ◌≡◌, refl, List, [], ◌∷◌, ◌++◌, Bool, true, false, ◌&&◌, length, take, drop, leb, eqb}
+use Rattle.image.specs.Prelude.{sym, ap, ap₂, ◌∙◌, append_assoc, append-nil, Option, none, some, Option·some-injective, Option·none-ne-some, arith, length-append, length-drop, take_at, drop_at, drop-drop, take-add, length-take-le, le-leb}
 use Rattle.image.specs.Bytes.{u16, u16_bytes, zeros}
 use Rattle.image.specs.Entry.{Message, Entry, pair, child, message, entries_of}
 use Rattle.image.specs.Image.{Inside, laid_out, entry_bytes, node_entries, message_then, messages_of, no_branches, branch_then, inside_of}

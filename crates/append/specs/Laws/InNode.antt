@@ -1,6 +1,7 @@
 -- Bytes put inside one node: that node has them at the same place, every other node stays. And what a page reads after a put.
 -- Relies on octets' `put` and on laws' `write_node`.
-use Rattle.image.specs.Prelude.{ℕ, ◌+◌, ◌*◌, ◌-◌, ◌≤◌, ◌<◌, ◌≡◌, sym, ap, ap₂, ◌∙◌, List, ◌++◌, append_assoc, arith, length, take, drop, get_or, length-append, length-drop, take-append-drop, List·getD-append, take-add, take-take, drop-drop, drop-append-le, drop-append-add, length-take-le, get_or-take, get_or-drop}
+use Rattle.std.specs.Prelude.{ℕ, ◌+◌, ◌*◌, ◌-◌, ◌≤◌, ◌<◌, ◌≡◌, List, ◌++◌, length, take, drop, get_or}
+use Rattle.image.specs.Prelude.{sym, ap, ap₂, ◌∙◌, append_assoc, arith, length-append, length-drop, take-append-drop, List·getD-append, take-add, take-take, drop-drop, drop-append-le, drop-append-add, length-take-le, get_or-take, get_or-drop}
 use Rattle.image.specs.Bytes.{u16}
 use Rattle.image.specs.Image.{node_bytes}
 use Rattle.octets.specs.Put.{put, put-size}

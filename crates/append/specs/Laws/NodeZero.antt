@@ -1,6 +1,7 @@
 -- A number of node 0 written anew: the root, the levels or the live count. Node 0 stays laid out, its other numbers stay.
 -- Relies on InNode.
-use Rattle.image.specs.Prelude.{ℕ, ◌+◌, ◌≤◌, ◌≡◌, ap, ◌∙◌, List, true, ◌&&◌, arith, length, eqb}
+use Rattle.std.specs.Prelude.{ℕ, ◌+◌, ◌≤◌, ◌≡◌, List, true, ◌&&◌, length, eqb}
+use Rattle.image.specs.Prelude.{ap, ◌∙◌, arith}
 use Rattle.image.specs.Bytes.{u16, u16_bytes, zeros}
 use Rattle.image.specs.Image.{header_laid_out}
 use Rattle.octets.specs.Order.{and_left, and_right}

@@ -1,6 +1,7 @@
 -- A new root above the old one, with one message: the bytes that stand there afterwards, that they are sound, and what they mean.
 -- Relies on laws' Page for the new node, on NodeZero for node 0, and on laws' Frame for the old tree, which stays whole.
-use Rattle.image.specs.Prelude.{ℕ, zero, suc, ◌+◌, ◌*◌, ◌≤◌, ◌<◌, ◌≡◌, refl, sym, ap, ap₂, subst, ◌∙◌, List, [], ◌∷◌, ◌++◌, append-nil, true, false, arith, length, drop_of_length-le, le-leb, lt-ltb}
+use Rattle.std.specs.Prelude.{ℕ, zero, suc, ◌+◌, ◌*◌, ◌≤◌, ◌<◌, ◌≡◌, refl, List, [], ◌∷◌, ◌++◌, true, false, length}
+use Rattle.image.specs.Prelude.{sym, ap, ap₂, subst, ◌∙◌, append-nil, arith, drop_of_length-le, le-leb, lt-ltb}
 use Rattle.image.specs.Bytes.{u16, u16_bytes, same, before, shared}
 use Rattle.image.specs.Path.{owns}
 use Rattle.image.specs.Entry.{Message, child, message}

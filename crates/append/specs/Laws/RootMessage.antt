@@ -1,6 +1,6 @@
 -- Which messages are sound at the root: it lifts nothing and owns every path, so a well-formed path and a value that fits are enough.
 -- Relies on packed's Leaves: a well-formed path comes before FF.
-use Rattle.image.specs.Prelude.{ℕ, ◌≡◌, List, [], true}
+use Rattle.std.specs.Prelude.{ℕ, ◌≡◌, List, [], true}
 use Rattle.image.specs.Bytes.{same, shared}
 use Rattle.image.specs.Path.{well_formed, owns, value_fits}
 use Rattle.image.specs.Entry.{puts, drops, clears}

@@ -1,6 +1,7 @@
 -- The live count of node 0 written: the tree and the table stay, and with the right count the image is sound.
 -- Relies on NodeZero, and on laws' Frame: node 0 is no node of the tree.
-use Rattle.image.specs.Prelude.{ℕ, ◌+◌, ◌*◌, ◌≤◌, ◌<◌, ◌≡◌, sym, ap, ap₂, subst, ◌∙◌, List, true, arith, length}
+use Rattle.std.specs.Prelude.{ℕ, ◌+◌, ◌*◌, ◌≤◌, ◌<◌, ◌≡◌, List, true, length}
+use Rattle.image.specs.Prelude.{sym, ap, ap₂, subst, ◌∙◌, arith}
 use Rattle.image.specs.Bytes.{u16_bytes}
 use Rattle.image.specs.Image.{header, node_bytes, nodes_of, header_of, header_laid_out, tree_at, tree_of}
 use Rattle.image.specs.Meaning.{rows}

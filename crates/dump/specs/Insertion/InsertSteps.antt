@@ -1,6 +1,7 @@
 -- Steps of the insertion of a row: what the move leaves for the writer of the row, and what the two leave together.
 -- Relies on the laws of slots and ranks, and on what the writer of one row promises (`packed`).
-use Rattle.image.specs.Prelude.{ℕ, ◌+◌, ◌*◌, ◌-◌, ◌≤◌, ◌<◌, ◌≡◌, refl, sym, ap, ap₂, ◌∙◌, List, [], ◌∷◌, ◌++◌, append_assoc, Bool, true, false, none, arith, length, take, drop, length-drop, length-take-le, leb, leb-true, leb-false}
+use Rattle.std.specs.Prelude.{ℕ, ◌+◌, ◌*◌, ◌-◌, ◌≤◌, ◌<◌, ◌≡◌, refl, List, [], ◌∷◌, ◌++◌, Bool, true, false, length, take, drop, leb}
+use Rattle.image.specs.Prelude.{sym, ap, ap₂, ◌∙◌, append_assoc, none, arith, length-drop, length-take-le, leb-true, leb-false}
 use Rattle.image.specs.Table.{find, with_row}
 use Rattle.octets.specs.Put.{put, put-size}
 use Rattle.packed.specs.Rows.Area.{rows_of, RowsFit}

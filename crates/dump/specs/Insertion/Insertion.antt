@@ -1,5 +1,5 @@
 -- What the insertion of a row and the merge of rows ask and promise, and the place that a row is put at. Definitions only.
-use Rattle.image.specs.Prelude.{ℕ, suc, ◌+◌, ◌*◌, ◌-◌, ◌≤◌, ◌≡◌, List, [], ◌∷◌, ◌++◌, Bool, true, cond, length, take, drop}
+use Rattle.std.specs.Prelude.{ℕ, suc, ◌+◌, ◌*◌, ◌-◌, ◌≤◌, ◌≡◌, List, [], ◌∷◌, ◌++◌, Bool, true, cond, length, take, drop}
 use Rattle.image.specs.Bytes.{before}
 use Rattle.image.specs.Table.{Row, find, is_some, with_row, put_all, rising}
 use Rattle.octets.specs.Put.{put}

@@ -1,6 +1,7 @@
 -- Rows put into a table that rises: puts of different paths change places, so parts of the rows may go in one after the other, and the last
 -- row of some that rise goes in at its place, with what stands before it for the others. Relies on the laws of tables (`laws`) and of ranks.
-use Rattle.image.specs.Prelude.{ℕ, suc, ◌+◌, ◌<◌, ◌≤◌, ◌≡◌, refl, sym, ap, ◌∙◌, List, [], ◌∷◌, ◌++◌, Bool, true, false, cond, false≢true, Option, none, Option·none-ne-some, arith, length, length-append}
+use Rattle.std.specs.Prelude.{ℕ, suc, ◌+◌, ◌<◌, ◌≤◌, ◌≡◌, refl, List, [], ◌∷◌, ◌++◌, Bool, true, false, cond, length}
+use Rattle.image.specs.Prelude.{sym, ap, ◌∙◌, false≢true, Option, none, Option·none-ne-some, arith, length-append}
 use Rattle.image.specs.Bytes.{same, before}
 use Rattle.image.specs.Table.{Row, find, is_some, with_row, put_all, every_key, leads, rising}
 use Rattle.octets.specs.Order.{and_left, and_right, same-eq, before-trans, before-not-same, before-total}

@@ -1,6 +1,7 @@
 -- Steps of the merge: one row put in; a chunk of rows set aside, from the last to the first; chunk after chunk.
 -- Relies on the laws of slots, of moves and of tables (Merge).
-use Rattle.image.specs.Prelude.{ℕ, ◌+◌, ◌*◌, ◌-◌, ◌≤◌, ◌<◌, ◌≡◌, refl, sym, ap, ap₂, subst, ◌∙◌, List, [], ◌∷◌, ◌++◌, append_assoc, append-nil, Bool, true, false, arith, length, take, drop, get_or, length-append, length-drop, length-take-le, drop-drop, leb, leb-true, leb-false}
+use Rattle.std.specs.Prelude.{ℕ, ◌+◌, ◌*◌, ◌-◌, ◌≤◌, ◌<◌, ◌≡◌, refl, List, [], ◌∷◌, ◌++◌, Bool, true, false, length, take, drop, get_or, leb}
+use Rattle.image.specs.Prelude.{sym, ap, ap₂, subst, ◌∙◌, append_assoc, append-nil, arith, length-append, length-drop, length-take-le, drop-drop, leb-true, leb-false}
 use Rattle.image.specs.Table.{Row, put_all, rising}
 use Rattle.octets.specs.Put.{put, put-size, put-nil}
 use Rattle.laws.specs.Tables.{put-length}

@@ -1,5 +1,6 @@
 -- Rows moved up, the last first: what has been moved once the rows from `at` on are. Relies on the laws of puts (`octets`, `packed`).
-use Rattle.image.specs.Prelude.{ℕ, ◌+◌, ◌*◌, ◌-◌, ◌≤◌, ◌≡◌, sym, ap, ap₂, ◌∙◌, List, ◌++◌, append_assoc, append-nil, arith, length, take, drop, length-append, length-drop, drop_of_length-le, length-take-le, take-append-le, take-take, take-add, drop_at, drop-drop}
+use Rattle.std.specs.Prelude.{ℕ, ◌+◌, ◌*◌, ◌-◌, ◌≤◌, ◌≡◌, List, ◌++◌, length, take, drop}
+use Rattle.image.specs.Prelude.{sym, ap, ap₂, ◌∙◌, append_assoc, append-nil, arith, length-append, length-drop, drop_of_length-le, length-take-le, take-append-le, take-take, take-add, drop_at, drop-drop}
 use Rattle.octets.specs.Put.{put, put-nil}
 use Rattle.packed.specs.Build.PutLaws.{put-before}
 use Rattle.dump.specs.Insertion.Insertion.{slot}

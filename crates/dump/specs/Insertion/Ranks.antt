@@ -1,6 +1,7 @@
 -- The place of a path among rows: what one comparison says of it where the rows rise, and that the path's row is put there.
 -- Relies on the order of paths (`octets`) and on the laws of tables (`laws`).
-use Rattle.image.specs.Prelude.{ℕ, zero, suc, ◌+◌, ◌-◌, ◌≤◌, ◌<◌, ◌≡◌, refl, sym, ap, ◌∙◌, List, [], ◌∷◌, ◌++◌, Bool, true, false, none, Option·none-ne-some, arith, length}
+use Rattle.std.specs.Prelude.{ℕ, zero, suc, ◌+◌, ◌-◌, ◌≤◌, ◌<◌, ◌≡◌, refl, List, [], ◌∷◌, ◌++◌, Bool, true, false, length}
+use Rattle.image.specs.Prelude.{sym, ap, ◌∙◌, none, Option·none-ne-some, arith}
 use Rattle.image.specs.Bytes.{same, before}
 use Rattle.image.specs.Table.{Row, find, is_some, with_row, leads, rising}
 use Rattle.octets.specs.Order.{and_left, and_right, before-trans, before-not-same, before-total}

@@ -1,6 +1,7 @@
 -- Steps of the replacement of a row's value, and of the setting of a row: in the first part of the rows, in the second, or new in the second.
 -- Relies on the laws of slots, ranks and puts into tables, and on what the writer of one row promises (`packed`).
-use Rattle.image.specs.Prelude.{ℕ, ◌+◌, ◌*◌, ◌-◌, ◌≤◌, ◌<◌, ◌≡◌, refl, sym, ap, ap₂, subst, ◌∙◌, List, [], ◌∷◌, ◌++◌, append_assoc, Bool, true, false, not, true≢false, Option, none, some, arith, length, drop, drop-drop, leb, leb-true, leb-false, not-true, not-false}
+use Rattle.std.specs.Prelude.{ℕ, ◌+◌, ◌*◌, ◌-◌, ◌≤◌, ◌<◌, ◌≡◌, refl, List, [], ◌∷◌, ◌++◌, Bool, true, false, not, length, drop, leb}
+use Rattle.image.specs.Prelude.{sym, ap, ap₂, subst, ◌∙◌, append_assoc, true≢false, Option, none, some, arith, drop-drop, leb-true, leb-false, not-true, not-false}
 use Rattle.image.specs.Bytes.{same}
 use Rattle.image.specs.Table.{Row, find, is_some, with_row, put_all, rising}
 use Rattle.octets.specs.Order.{same_refl, same-eq, same_turn}

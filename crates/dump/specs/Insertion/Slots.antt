@@ -1,6 +1,7 @@
 -- The 128 bytes of a row, and rows side by side: a row is read from its own bytes only, so rows whose bytes are alike are alike.
 -- Relies on the layout of a row and on the laws of puts (`packed`).
-use Rattle.image.specs.Prelude.{ℕ, zero, suc, ◌+◌, ◌*◌, ◌-◌, ◌≤◌, ◌<◌, ◌≡◌, refl, sym, ap, ap₂, ◌∙◌, List, [], ◌∷◌, ◌++◌, Bool, true, false, arith, length, take, drop, get_or, length-append, length-drop, length-take-le, take-take, drop-drop, drop-append-le, take-append-le, drop-append-add, take-append_seam, drop-append_seam, leb, leb-true, leb-false}
+use Rattle.std.specs.Prelude.{ℕ, zero, suc, ◌+◌, ◌*◌, ◌-◌, ◌≤◌, ◌<◌, ◌≡◌, refl, List, [], ◌∷◌, ◌++◌, Bool, true, false, length, take, drop, get_or, leb}
+use Rattle.image.specs.Prelude.{sym, ap, ap₂, ◌∙◌, arith, length-append, length-drop, length-take-le, take-take, drop-drop, drop-append-le, take-append-le, drop-append-add, take-append_seam, drop-append_seam, leb-true, leb-false}
 use Rattle.octets.specs.Put.{put}
 use Rattle.image.specs.Table.{Row}
 use Rattle.packed.specs.Rows.Area.{row_at, rows_of, RowsFit}

@@ -1,5 +1,6 @@
 -- A skip that is fair: a child that no wanted path can stand in may be left out of the walk for next. Relies on Seek.
-use Rattle.image.specs.Prelude.{ℕ, ◌≡◌, refl, ap, List, [], ◌∷◌, ◌⊎◌, inl, inr, Bool, true, false, ◌&&◌, ◌||◌, not, false≢true, Option, none, some, eqb, cases}
+use Rattle.std.specs.Prelude.{ℕ, ◌≡◌, refl, List, [], ◌∷◌, ◌⊎◌, Bool, true, false, ◌&&◌, ◌||◌, not, eqb}
+use Rattle.image.specs.Prelude.{ap, inl, inr, false≢true, Option, none, some, cases}
 use Rattle.image.specs.Bytes.{before, begins, shared}
 use Rattle.image.specs.Path.{well_formed}
 use Rattle.octets.specs.Order.{and_left, and_right, not_so, not-true, before-trans, before-irrefl, before-asym, before-le, between-begins, le-before}

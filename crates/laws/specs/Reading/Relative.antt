@@ -1,5 +1,6 @@
 -- Lookup told from inside a node: pivots and path without the bytes that the node lifts. And the same on the bytes of an image.
-use Rattle.image.specs.Prelude.{ltb-true, ℕ, ◌<◌, ◌≡◌, refl, sym, ap, ◌∙◌, List, [], ◌∷◌, ◌++◌, append-nil, Bool, true, false, ◌&&◌, cond, false≢true, Option, none, length, drop, ltb, leb}
+use Rattle.std.specs.Prelude.{ℕ, ◌<◌, ◌≡◌, refl, List, [], ◌∷◌, ◌++◌, Bool, true, false, ◌&&◌, cond, length, drop, ltb, leb}
+use Rattle.image.specs.Prelude.{ltb-true, sym, ap, ◌∙◌, append-nil, false≢true, Option, none}
 use Rattle.image.specs.Bytes.{shared}
 use Rattle.image.specs.Path.{owns}
 use Rattle.image.specs.Table.{find}

@@ -1,6 +1,7 @@
 -- Next as one walk over a tree: it carries the best path so far, and takes a pair's or a put's path if it is below `below`, after `since`, before the
 -- best, and present. A child may be skipped if no path that it can hold is wanted.
-use Rattle.image.specs.Prelude.{ℕ, ◌≡◌, refl, sym, ap, ◌∙◌, List, [], ◌∷◌, ◌++◌, ◌⊎◌, inl, inr, Bool, true, false, ◌&&◌, ◌||◌, not, cond, false≢true, true≢false, Option, none, some, cases}
+use Rattle.std.specs.Prelude.{ℕ, ◌≡◌, refl, List, [], ◌∷◌, ◌++◌, ◌⊎◌, Bool, true, false, ◌&&◌, ◌||◌, not, cond}
+use Rattle.image.specs.Prelude.{sym, ap, ◌∙◌, inl, inr, false≢true, true≢false, Option, none, some, cases}
 use Rattle.image.specs.Bytes.{same, before, begins, shared}
 use Rattle.image.specs.Path.{well_formed, owns, value_fits}
 use Rattle.image.specs.Entry.{Message, puts, drops, clears}

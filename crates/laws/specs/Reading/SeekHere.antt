@@ -1,5 +1,6 @@
 -- The keys of a tree told from inside a node, and the walk over them: what the code of next carries down is the lifted prefix.
-use Rattle.image.specs.Prelude.{ℕ, ◌≡◌, refl, sym, ap, ap₂, ◌∙◌, List, [], ◌∷◌, ◌++◌, append_assoc, Bool, true, false, ◌&&◌, not, Option, none, length, drop, length-append, drop-append-add}
+use Rattle.std.specs.Prelude.{ℕ, ◌≡◌, refl, List, [], ◌∷◌, ◌++◌, Bool, true, false, ◌&&◌, not, length, drop}
+use Rattle.image.specs.Prelude.{sym, ap, ap₂, ◌∙◌, append_assoc, Option, none, length-append, drop-append-add}
 use Rattle.image.specs.Bytes.{same, shared}
 use Rattle.image.specs.Entry.{Message, puts, drops, clears}
 use Rattle.image.specs.Table.{Row, find, is_some, under_prefix, least_after}

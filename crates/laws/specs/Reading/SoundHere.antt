@@ -1,6 +1,7 @@
 -- Soundness told from inside a node: pivots and suffixes are without the lifted bytes, which are there only as a path shape.
 -- `sound-here`: it is the definition of soundness, as an equation without hypotheses.
-use Rattle.image.specs.Prelude.{ℕ, ◌≡◌, refl, sym, ap, ap₂, ◌∙◌, List, [], ◌∷◌, ◌++◌, Bool, true, false, ◌&&◌, ◌||◌, drop}
+use Rattle.std.specs.Prelude.{ℕ, ◌≡◌, refl, List, [], ◌∷◌, ◌++◌, Bool, true, false, ◌&&◌, ◌||◌, drop}
+use Rattle.image.specs.Prelude.{sym, ap, ap₂, ◌∙◌}
 use Rattle.image.specs.Bytes.{same, before, shared}
 use Rattle.image.specs.Path.{well_formed, owns, value_fits}
 use Rattle.image.specs.Entry.{Message, puts, drops, clears}

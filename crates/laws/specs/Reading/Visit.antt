@@ -1,6 +1,7 @@
 -- The check as one walk that marks the nodes it reaches: what the code of check does, and that it is soundness with every node in range and reached
 -- once.
-use Rattle.image.specs.Prelude.{ℕ, zero, suc, ◌<◌, ◌≤◌, ◌≡◌, refl, sym, ap, ap₂, ◌∙◌, List, [], ◌∷◌, ◌++◌, Bool, true, false, ◌&&◌, not, cond, and-true, Option, none, some, arith, length, drop, get_or, set, replicate, length-set, length-replicate, get_or-set_same, get_or-set_other, ltb, leb, eqb, eqb-true, eqb-false, ltb-true}
+use Rattle.std.specs.Prelude.{ℕ, zero, suc, ◌<◌, ◌≤◌, ◌≡◌, refl, List, [], ◌∷◌, ◌++◌, Bool, true, false, ◌&&◌, not, cond, length, drop, get_or, set, replicate, ltb, leb, eqb}
+use Rattle.image.specs.Prelude.{sym, ap, ap₂, ◌∙◌, and-true, Option, none, some, arith, length-set, length-replicate, get_or-set_same, get_or-set_other, eqb-true, eqb-false, ltb-true}
 use Rattle.image.specs.Bytes.{before, shared}
 use Rattle.image.specs.Path.{owns}
 use Rattle.image.specs.Table.{Row}

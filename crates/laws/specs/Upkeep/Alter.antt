@@ -1,5 +1,6 @@
 -- The node of a given number, anywhere in a tree, changed.
-use Rattle.image.specs.Prelude.{ℕ, ◌-◌, ◌≡◌, refl, ap, ap₂, inl, List, [], ◌++◌, Bool, true, false, cond, eqb}
+use Rattle.std.specs.Prelude.{ℕ, ◌-◌, ◌≡◌, refl, List, [], ◌++◌, Bool, true, false, cond, eqb}
+use Rattle.image.specs.Prelude.{ap, ap₂, inl}
 use Rattle.image.specs.Bytes.{shared}
 use Rattle.image.specs.Entry.{Message}
 use Rattle.image.specs.Image.{Tree, unread, leaf, interior, Forest, end, tree}

@@ -1,5 +1,6 @@
 -- From trees to images: where only the subtree of node n is written anew, the tree of the image is the old one with that node changed.
-use Rattle.image.specs.Prelude.{ℕ, zero, suc, ◌-◌, ◌≤◌, ◌≡◌, refl, sym, ap, ap₂, subst, ◌∙◌, List, [], ◌∷◌, ◌++◌, append-nil, Bool, true, false, ◌&&◌, ◌||◌, not, false≢true, Option, none, some, Option·some-injective, Option·none-ne-some, arith, length, leb, eqb, eqb-true, eq-eqb, leb-true, cases}
+use Rattle.std.specs.Prelude.{ℕ, zero, suc, ◌-◌, ◌≤◌, ◌≡◌, refl, List, [], ◌∷◌, ◌++◌, Bool, true, false, ◌&&◌, ◌||◌, not, length, leb, eqb}
+use Rattle.image.specs.Prelude.{sym, ap, ap₂, subst, ◌∙◌, append-nil, false≢true, Option, none, some, Option·some-injective, Option·none-ne-some, arith, eqb-true, eq-eqb, leb-true, cases}
 use Rattle.image.specs.Bytes.{shared}
 use Rattle.image.specs.Table.{Row}
 use Rattle.image.specs.Image.{Tree, interior, end, tree, Branch, Inside, node_bytes, node_entries, pairs_of, inside_of, forest_of, leaf_of, interior_of, or_none, tree_at, header, header_of, header_laid_out, nodes_of, tree_of}

@@ -1,6 +1,7 @@
 -- The numbers of a node's children, and of the nodes under those: each a part of what is under the node, and no number in both.
 -- Relies on Bridge for distinct numbers of two lists.
-use Rattle.image.specs.Prelude.{ℕ, ◌≡◌, refl, sym, ap, subst, ◌∙◌, List, [], ◌∷◌, ◌++◌, Bool, true, false, ◌||◌, false≢true, eqb, eqb-true, cases}
+use Rattle.std.specs.Prelude.{ℕ, ◌≡◌, refl, List, [], ◌∷◌, ◌++◌, Bool, true, false, ◌||◌, eqb}
+use Rattle.image.specs.Prelude.{sym, ap, subst, ◌∙◌, false≢true, eqb-true, cases}
 use Rattle.image.specs.Image.{Tree, unread, leaf, interior, Forest, end, tree}
 use Rattle.image.specs.Sound.{numbers, numbers_in, is_in, once}
 use Rattle.octets.specs.Order.{and_left, not_so, refuted, not-true, or-none-right, or-none-left}

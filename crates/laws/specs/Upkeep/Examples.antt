@@ -1,5 +1,5 @@
 -- The definitions on small trees, by computation.
-use Rattle.image.specs.Prelude.{ℕ, ◌≡◌, refl, List, [], ◌∷◌, true, false}
+use Rattle.std.specs.Prelude.{ℕ, ◌≡◌, refl, List, [], ◌∷◌, true, false}
 use Rattle.image.specs.Bytes.{same, before, begins, shared}
 use Rattle.image.specs.Path.{letter, reads_on, well_formed, below, owns, value_fits}
 use Rattle.image.specs.Entry.{puts, drops, clears}

@@ -1,5 +1,6 @@
 -- A flush by one level: all messages of a node, oldest first, go to its children.
-use Rattle.image.specs.Prelude.{ℕ, ◌-◌, ◌≡◌, refl, sym, ap, ap₂, subst, ◌∙◌, List, [], ◌∷◌, ◌++◌, append-nil, Bool, true, false, ◌&&◌, ◌||◌, cond, length, drop, leb, cases}
+use Rattle.std.specs.Prelude.{ℕ, ◌-◌, ◌≡◌, refl, List, [], ◌∷◌, ◌++◌, Bool, true, false, ◌&&◌, ◌||◌, cond, length, drop, leb}
+use Rattle.image.specs.Prelude.{sym, ap, ap₂, subst, ◌∙◌, append-nil, cases}
 use Rattle.image.specs.Bytes.{same, begins, shared}
 use Rattle.image.specs.Path.{below, owns, well_formed, value_fits}
 use Rattle.image.specs.Entry.{Message, puts, drops, clears}

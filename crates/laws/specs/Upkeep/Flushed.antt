@@ -1,6 +1,7 @@
 -- A flush by one level meets document 01's rule: its messages go down, and no reachable node of the flushed node's level that owns any of what it
 -- owned holds a message.
-use Rattle.image.specs.Prelude.{ℕ, ◌-◌, ◌≤◌, ◌<◌, ◌≡◌, refl, sym, ap, subst, ◌∙◌, List, [], ◌∷◌, ◌++◌, Bool, true, false, ◌&&◌, ◌||◌, not, cond, Option, none, some, Option·some-injective, arith, leb, eqb, ne_eqb, eqb-true, le-leb, lt-leb, leb-true, cases}
+use Rattle.std.specs.Prelude.{ℕ, ◌-◌, ◌≤◌, ◌<◌, ◌≡◌, refl, List, [], ◌∷◌, ◌++◌, Bool, true, false, ◌&&◌, ◌||◌, not, cond, leb, eqb}
+use Rattle.image.specs.Prelude.{sym, ap, subst, ◌∙◌, Option, none, some, Option·some-injective, arith, ne_eqb, eqb-true, le-leb, lt-leb, leb-true, cases}
 use Rattle.image.specs.Bytes.{before, shared}
 use Rattle.image.specs.Entry.{Message}
 use Rattle.image.specs.Table.{Row}

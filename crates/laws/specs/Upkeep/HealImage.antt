@@ -1,5 +1,6 @@
 -- One step of heal on an image: the left one of a pair is written with the entries of both, the node above it without the right one's entry.
-use Rattle.image.specs.Prelude.{ℕ, zero, suc, ◌-◌, ◌≤◌, ◌≡◌, refl, sym, ap, subst, ◌∙◌, List, [], ◌∷◌, ◌++◌, append_assoc, Bool, true, false, ◌||◌, false≢true, some, arith, length, leb, eqb, eqb-true, eq-eqb, ne_eqb, cases}
+use Rattle.std.specs.Prelude.{ℕ, zero, suc, ◌-◌, ◌≤◌, ◌≡◌, refl, List, [], ◌∷◌, ◌++◌, Bool, true, false, ◌||◌, length, leb, eqb}
+use Rattle.image.specs.Prelude.{sym, ap, subst, ◌∙◌, append_assoc, false≢true, some, arith, eqb-true, eq-eqb, ne_eqb, cases}
 use Rattle.image.specs.Bytes.{shared}
 use Rattle.image.specs.Entry.{Entry}
 use Rattle.image.specs.Table.{Row}

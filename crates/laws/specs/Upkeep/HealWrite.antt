@@ -1,5 +1,6 @@
 -- A step of heal as two nodes written: what the code does is the tree with the pair merged, sound, and the same table.
-use Rattle.image.specs.Prelude.{ℕ, zero, suc, ◌+◌, ◌*◌, ◌≤◌, ◌<◌, ◌≡◌, ◌∙◌, List, ◌++◌, true, false, false≢true, some, arith, length, eqb, eqb-false, ne_eqb}
+use Rattle.std.specs.Prelude.{ℕ, zero, suc, ◌+◌, ◌*◌, ◌≤◌, ◌<◌, ◌≡◌, List, ◌++◌, true, false, length, eqb}
+use Rattle.image.specs.Prelude.{◌∙◌, false≢true, some, arith, eqb-false, ne_eqb}
 use Rattle.image.specs.Bytes.{shared}
 use Rattle.image.specs.Image.{Tree, unread, leaf, interior, Forest, end, tree, node_bytes, nodes_of, header_of, tree_of}
 use Rattle.image.specs.Meaning.{high_of}

@@ -1,5 +1,6 @@
 -- Heal, on the tree of an image: what document 01 asks of it.
-use Rattle.image.specs.Prelude.{ℕ, zero, suc, ◌-◌, ◌≡◌, refl, sym, ap, ap₂, ◌∙◌, List, [], ◌∷◌, ◌++◌, Bool, true, false, ◌&&◌, cond, Option, none, some, Option·some-injective, Option·none-ne-some, arith, length, eqb, eqb-true, le-leb, cases}
+use Rattle.std.specs.Prelude.{ℕ, zero, suc, ◌-◌, ◌≡◌, refl, List, [], ◌∷◌, ◌++◌, Bool, true, false, ◌&&◌, cond, length, eqb}
+use Rattle.image.specs.Prelude.{sym, ap, ap₂, ◌∙◌, Option, none, some, Option·some-injective, Option·none-ne-some, arith, eqb-true, le-leb, cases}
 use Rattle.image.specs.Bytes.{shared}
 use Rattle.image.specs.Entry.{Message}
 use Rattle.image.specs.Table.{Row}

@@ -1,5 +1,6 @@
 -- Two neighbouring children merged where they would fit in one node; and that again and again until none do.
-use Rattle.image.specs.Prelude.{ℕ, zero, suc, ◌≡◌, refl, ap, ◌∙◌, List, [], ◌∷◌, ◌++◌, append_assoc, Bool, true, ◌&&◌, cond, eqb, eq-eqb, cases}
+use Rattle.std.specs.Prelude.{ℕ, zero, suc, ◌≡◌, refl, List, [], ◌∷◌, ◌++◌, Bool, true, ◌&&◌, cond, eqb}
+use Rattle.image.specs.Prelude.{ap, ◌∙◌, append_assoc, eq-eqb, cases}
 use Rattle.image.specs.Bytes.{before}
 use Rattle.image.specs.Image.{Tree, Forest, end, tree}
 use Rattle.image.specs.Meaning.{high_of, rows, rows_in}

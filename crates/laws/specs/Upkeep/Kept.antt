@@ -1,6 +1,7 @@
 -- Reachable nodes after a heal beside those before: some are gone, the others keep number, level, low pivot and messages, and their high
 -- pivot too, but for some that hold no message.
-use Rattle.image.specs.Prelude.{ℕ, ◌-◌, ◌≡◌, refl, sym, ap, ap₂, subst, ◌∙◌, ◌⊎◌, inl, inr, List, [], ◌∷◌, ◌++◌, Bool, true, false, ◌||◌, not, false≢true, some, Option·some-injective, eqb, eqb-true, eqb-false, eq-eqb, ne_eqb}
+use Rattle.std.specs.Prelude.{ℕ, ◌-◌, ◌≡◌, refl, ◌⊎◌, List, [], ◌∷◌, ◌++◌, Bool, true, false, ◌||◌, not, eqb}
+use Rattle.image.specs.Prelude.{sym, ap, ap₂, subst, ◌∙◌, inl, inr, false≢true, some, Option·some-injective, eqb-true, eqb-false, eq-eqb, ne_eqb}
 use Rattle.image.specs.Bytes.{shared}
 use Rattle.image.specs.Entry.{Message, puts, drops, clears}
 use Rattle.image.specs.Image.{Tree, unread, leaf, interior, Forest, end, tree}

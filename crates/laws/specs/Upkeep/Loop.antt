@@ -1,5 +1,6 @@
 -- Merging again and again until no two neighbouring children would fit in one node.
-use Rattle.image.specs.Prelude.{ℕ, zero, suc, ◌≡◌, refl, ap, subst, List, ◌++◌, Bool, true, false, ◌&&◌, not, true≢false, arith, eqb-true, leb-true}
+use Rattle.std.specs.Prelude.{ℕ, zero, suc, ◌≡◌, refl, List, ◌++◌, Bool, true, false, ◌&&◌, not}
+use Rattle.image.specs.Prelude.{ap, subst, true≢false, arith, eqb-true, leb-true}
 use Rattle.image.specs.Image.{Tree, unread, leaf, interior, Forest, end, tree}
 use Rattle.image.specs.Meaning.{high_of}
 use Rattle.image.specs.Sound.{sound_forest, is_in}

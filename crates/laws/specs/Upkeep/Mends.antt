@@ -1,6 +1,7 @@
 -- A change of a tree that keeps its table, its soundness and its height, and leaves out nodes at most: carried from a list of children to
 -- its node, from a node to the list that it stands in, and from one change to the next.
-use Rattle.image.specs.Prelude.{ℕ, ◌-◌, ◌≡◌, refl, ap, ap₂, ◌∙◌, List, ◌++◌, true, leb}
+use Rattle.std.specs.Prelude.{ℕ, ◌-◌, ◌≡◌, refl, List, ◌++◌, true, leb}
+use Rattle.image.specs.Prelude.{ap, ap₂, ◌∙◌}
 use Rattle.image.specs.Bytes.{shared}
 use Rattle.image.specs.Entry.{Message}
 use Rattle.image.specs.Image.{Tree, interior, Forest, tree}

@@ -1,5 +1,6 @@
 -- Two neighbouring nodes as one: the left one's number, the entries rewritten for the joined range.
-use Rattle.image.specs.Prelude.{ℕ, ◌-◌, ◌≡◌, refl, sym, ap, ap₂, ◌∙◌, List, [], ◌∷◌, ◌++◌, append_assoc, Bool, true, false, ◌&&◌, not, false≢true, length, drop, leb, eqb, inr}
+use Rattle.std.specs.Prelude.{ℕ, ◌-◌, ◌≡◌, refl, List, [], ◌∷◌, ◌++◌, Bool, true, false, ◌&&◌, not, length, drop, leb, eqb}
+use Rattle.image.specs.Prelude.{sym, ap, ap₂, ◌∙◌, append_assoc, false≢true, inr}
 use Rattle.image.specs.Bytes.{before, begins, shared}
 use Rattle.image.specs.Path.{owns, well_formed, value_fits}
 use Rattle.image.specs.Entry.{Message}

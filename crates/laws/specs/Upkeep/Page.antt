@@ -1,5 +1,6 @@
 -- The 1,024 bytes of a node with given entries, and that they read back.
-use Rattle.image.specs.Prelude.{ℕ, suc, ◌≤◌, ◌≡◌, refl, ap, ap₂, List, ◌++◌, true, some, length}
+use Rattle.std.specs.Prelude.{ℕ, suc, ◌≤◌, ◌≡◌, refl, List, ◌++◌, true, length}
+use Rattle.image.specs.Prelude.{ap, ap₂, some}
 use Rattle.image.specs.Entry.{Message, Entry}
 use Rattle.image.specs.Table.{Row}
 use Rattle.image.specs.Image.{Tree, leaf, interior, Forest, end, tree, node_bytes, node_entries, forest_of, leaf_of, interior_of, or_none, tree_at}

@@ -1,5 +1,6 @@
 -- What a node that reads says of its bytes: the entries written again have the same length, their pivots are short, and its tree has them.
-use Rattle.image.specs.Prelude.{ℕ, zero, suc, ◌+◌, ◌-◌, ◌≤◌, ◌≡◌, refl, sym, ap, ap₂, subst, ◌∙◌, ◌⊎◌, inl, inr, List, [], ◌∷◌, ◌++◌, Bool, true, false, ◌&&◌, cond, Option, none, some, Option·some-injective, Option·none-ne-some, arith, length, take, drop, length-append, length-drop, length-take, take-append-drop, leb, eqb, leb-true, le-leb}
+use Rattle.std.specs.Prelude.{ℕ, zero, suc, ◌+◌, ◌-◌, ◌≤◌, ◌≡◌, refl, ◌⊎◌, List, [], ◌∷◌, ◌++◌, Bool, true, false, ◌&&◌, cond, length, take, drop, leb, eqb}
+use Rattle.image.specs.Prelude.{sym, ap, ap₂, subst, ◌∙◌, inl, inr, Option, none, some, Option·some-injective, Option·none-ne-some, arith, length-append, length-drop, length-take, take-append-drop, leb-true, le-leb}
 use Rattle.image.specs.Bytes.{u16}
 use Rattle.image.specs.Entry.{Message, puts, drops, clears, Entry, pair, child, message, keyed, pointer, entry_of, entry_then, read_all, entries_of}
 use Rattle.image.specs.Image.{Tree, interior, Forest, Branch, Inside, laid_out, entry_bytes, node_bytes, node_entries, message_then, messages_of, no_branches, branch_then, inside_of, forest_of, interior_of, or_none, tree_at}

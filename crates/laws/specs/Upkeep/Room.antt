@@ -1,5 +1,6 @@
 -- Sizes of a node whose children are merged; and a flush taken child by child instead of message by message, as code does it.
-use Rattle.image.specs.Prelude.{ℕ, zero, suc, ◌≤◌, ◌≡◌, refl, sym, ap, ◌∙◌, List, [], ◌∷◌, ◌++◌, true, arith, cases}
+use Rattle.std.specs.Prelude.{ℕ, zero, suc, ◌≤◌, ◌≡◌, refl, List, [], ◌∷◌, ◌++◌, true}
+use Rattle.image.specs.Prelude.{sym, ap, ◌∙◌, arith, cases}
 use Rattle.image.specs.Entry.{Message, child}
 use Rattle.image.specs.Image.{Tree, interior, Forest, end, tree}
 use Rattle.image.specs.Meaning.{high_of}

@@ -1,5 +1,6 @@
 -- The rules of heal and flush on images, as a loop of code meets them.
-use Rattle.image.specs.Prelude.{ℕ, zero, suc, ◌≡◌, refl, sym, ap, ap₂, subst, ◌∙◌, List, ◌++◌, Bool, true, false, ◌&&◌, not, true≢false, some, Option·some-injective}
+use Rattle.std.specs.Prelude.{ℕ, zero, suc, ◌≡◌, refl, List, ◌++◌, Bool, true, false, ◌&&◌, not}
+use Rattle.image.specs.Prelude.{sym, ap, ap₂, subst, ◌∙◌, true≢false, some, Option·some-injective}
 use Rattle.image.specs.Image.{Tree, Forest, end, tree, node_bytes, header, header_of, tree_of}
 use Rattle.image.specs.Meaning.{high_of}
 use Rattle.image.specs.Sound.{sound, lowest, highest}

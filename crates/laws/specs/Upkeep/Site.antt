@@ -1,6 +1,7 @@
 -- The site of a node in a sound image: what its place says of the node's own tree, of the numbers under it, and of its children.
 -- Relies on Bridge for the subtree of a place, and on the parts of a sound image.
-use Rattle.image.specs.Prelude.{ℕ, zero, suc, ◌-◌, ◌≤◌, ◌<◌, ◌≡◌, refl, sym, ap, subst, ◌∙◌, List, [], ◌∷◌, ◌++◌, Bool, true, false, not, Option, none, some, arith, length, eqb, eqb-true, eq-eqb}
+use Rattle.std.specs.Prelude.{ℕ, zero, suc, ◌-◌, ◌≤◌, ◌<◌, ◌≡◌, refl, List, [], ◌∷◌, ◌++◌, Bool, true, false, not, length, eqb}
+use Rattle.image.specs.Prelude.{sym, ap, subst, ◌∙◌, Option, none, some, arith, eqb-true, eq-eqb}
 use Rattle.image.specs.Bytes.{shared}
 use Rattle.image.specs.Table.{Row}
 use Rattle.image.specs.Image.{Tree, interior, Branch, Inside, end, node_bytes, nodes_of, node_entries, pairs_of, inside_of, forest_of, leaf_of, interior_of, or_none, tree_at, header_of, tree_of}

@@ -1,6 +1,7 @@
 -- Heal as a loop of code takes it: a step merges the first pair that fits; after each step the tree is the first one with node n's children
 -- mended so often; and where the search finds no pair, heal's rule holds.
-use Rattle.image.specs.Prelude.{ℕ, zero, suc, ◌-◌, ◌≡◌, refl, sym, ap, ap₂, fun_ext, ◌∙◌, List, ◌++◌, Bool, true, false, cond, some, eqb, eq-eqb}
+use Rattle.std.specs.Prelude.{ℕ, zero, suc, ◌-◌, ◌≡◌, refl, List, ◌++◌, Bool, true, false, cond, eqb}
+use Rattle.image.specs.Prelude.{sym, ap, ap₂, fun_ext, ◌∙◌, some, eq-eqb}
 use Rattle.image.specs.Bytes.{shared}
 use Rattle.image.specs.Entry.{Message}
 use Rattle.image.specs.Image.{Tree, unread, leaf, interior, Forest, end, tree}

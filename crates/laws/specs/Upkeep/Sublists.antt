@@ -1,5 +1,6 @@
 -- Numbers left out of a list, the others in their order: so they stay distinct and in range.
-use Rattle.image.specs.Prelude.{ℕ, ◌≤◌, ◌<◌, ◌≡◌, refl, subst, List, [], ◌∷◌, ◌++◌, Bool, true, false, ◌&&◌, ◌||◌, not, false≢true, arith, ltb, leb, eqb, eqb-true, leb-true, ltb-true}
+use Rattle.std.specs.Prelude.{ℕ, ◌≤◌, ◌<◌, ◌≡◌, refl, List, [], ◌∷◌, ◌++◌, Bool, true, false, ◌&&◌, ◌||◌, not, ltb, leb, eqb}
+use Rattle.image.specs.Prelude.{subst, false≢true, arith, eqb-true, leb-true, ltb-true}
 use Rattle.image.specs.Sound.{is_in, once, in_range}
 use Rattle.octets.specs.Order.{and_left, and_right, not_so, not-true, not-false, refuted}
 use Rattle.laws.specs.Rising.{both}

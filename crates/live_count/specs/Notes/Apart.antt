@@ -1,5 +1,6 @@
 -- Step lemmas of the functions on one note: what each exit owes.
-use Rattle.image.specs.Prelude.{ℕ, zero, suc, ◌+◌, ◌-◌, ◌*◌, ◌/◌, ◌%◌, ◌<◌, ◌≤◌, ◌≡◌, refl, sym, ap, ap₂, ◌∙◌, List, [], ◌∷◌, ◌++◌, Bool, true, false, ◌&&◌, not, cond, true≢false, false≢true, and-true, arith, length, drop, take, get_or, eqb, eqb-true, ne_eqb}
+use Rattle.std.specs.Prelude.{ℕ, zero, suc, ◌+◌, ◌-◌, ◌*◌, ◌/◌, ◌%◌, ◌<◌, ◌≤◌, ◌≡◌, refl, List, [], ◌∷◌, ◌++◌, Bool, true, false, ◌&&◌, not, cond, length, drop, take, get_or, eqb}
+use Rattle.image.specs.Prelude.{sym, ap, ap₂, ◌∙◌, true≢false, false≢true, and-true, arith, eqb-true, ne_eqb}
 use Rattle.image.specs.Bytes.{same, before, begins, shared}
 use Rattle.image.specs.Path.{owns}
 use Rattle.octets.specs.Order.{and-false, not_so, not-true, same-eq, same_false, before-le, before-total, before-asym, between-begins, begins-trans, begins-append, same-append}

@@ -1,5 +1,5 @@
 -- Notes of messages: what a note says of a key, and what it is to note the messages of a node for a leaf. Definitions only.
-use Rattle.image.specs.Prelude.{ℕ, zero, suc, ◌+◌, ◌-◌, ◌/◌, ◌%◌, ◌<◌, ◌≤◌, ◌≡◌, List, [], ◌∷◌, ◌++◌, Bool, true, false, ◌&&◌, not, length, get_or, eqb}
+use Rattle.std.specs.Prelude.{ℕ, zero, suc, ◌+◌, ◌-◌, ◌/◌, ◌%◌, ◌<◌, ◌≤◌, ◌≡◌, List, [], ◌∷◌, ◌++◌, Bool, true, false, ◌&&◌, not, length, get_or, eqb}
 use Rattle.image.specs.Bytes.{same, before, begins}
 use Rattle.image.specs.Path.{owns}
 use Rattle.image.specs.Entry as defined

@@ -1,5 +1,6 @@
 -- Step lemmas of the functions that note the messages of a node, and count what no note is on.
-use Rattle.image.specs.Prelude.{ℕ, zero, suc, ◌+◌, ◌-◌, ◌/◌, ◌%◌, ◌<◌, ◌≤◌, ◌≡◌, refl, sym, ap, ap₂, subst, ◌∙◌, List, [], ◌∷◌, ◌++◌, Bool, true, false, ◌&&◌, not, cond, false≢true, and-true, Option, none, some, arith, length, get_or, set, get_or-set_same, get_or-set_other, leb, eqb, leb-true, leb-false, add-one}
+use Rattle.std.specs.Prelude.{ℕ, zero, suc, ◌+◌, ◌-◌, ◌/◌, ◌%◌, ◌<◌, ◌≤◌, ◌≡◌, refl, List, [], ◌∷◌, ◌++◌, Bool, true, false, ◌&&◌, not, cond, length, get_or, set, leb, eqb}
+use Rattle.image.specs.Prelude.{sym, ap, ap₂, subst, ◌∙◌, false≢true, and-true, Option, none, some, arith, get_or-set_same, get_or-set_other, leb-true, leb-false, add-one}
 use Rattle.image.specs.Bytes.{same, begins}
 use Rattle.image.specs.Path.{owns}
 use Rattle.image.specs.Entry as defined

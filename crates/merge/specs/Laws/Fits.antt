@@ -1,5 +1,6 @@
 -- What two neighbouring children weigh is what image/Upkeep's `would_fit` counts, and what is written for both is the entries of `merged`.
-use Rattle.image.specs.Prelude.{ℕ, zero, suc, ◌+◌, ◌-◌, ◌*◌, ◌≤◌, ◌<◌, ◌≡◌, refl, sym, ap, ap₂, subst, ◌∙◌, List, [], ◌∷◌, ◌++◌, append_assoc, append-nil, Bool, true, false, ◌&&◌, cond, false≢true, arith, length, drop, length-append, drop-append-add, drop-append-le, ltb, leb, leb-true, leb-false, le-leb, lt-leb, ltb-true, lt-ltb}
+use Rattle.std.specs.Prelude.{ℕ, zero, suc, ◌+◌, ◌-◌, ◌*◌, ◌≤◌, ◌<◌, ◌≡◌, refl, List, [], ◌∷◌, ◌++◌, Bool, true, false, ◌&&◌, cond, length, drop, ltb, leb}
+use Rattle.image.specs.Prelude.{sym, ap, ap₂, subst, ◌∙◌, append_assoc, append-nil, false≢true, arith, length-append, drop-append-add, drop-append-le, leb-true, leb-false, le-leb, lt-leb, ltb-true, lt-ltb}
 use Rattle.image.specs.Bytes.{before, begins, shared, u16}
 use Rattle.image.specs.Entry.{Message, Entry, pair, child, message}
 use Rattle.image.specs.Table.{Row}

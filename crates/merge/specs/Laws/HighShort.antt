@@ -1,5 +1,6 @@
 -- The high pivot of a node without what it lifts is short: it is the root's, or a pivot that an entry holds.
-use Rattle.image.specs.Prelude.{ℕ, zero, suc, ◌≤◌, ◌≡◌, refl, sym, ap, subst, ◌∙◌, List, [], ◌∷◌, ◌++◌, Bool, true, false, ◌&&◌, cond, Option, none, some, Option·some-injective, Option·none-ne-some, arith, length, drop, length-drop, leb, eqb, leb-true}
+use Rattle.std.specs.Prelude.{ℕ, zero, suc, ◌≤◌, ◌≡◌, refl, List, [], ◌∷◌, ◌++◌, Bool, true, false, ◌&&◌, cond, length, drop, leb, eqb}
+use Rattle.image.specs.Prelude.{sym, ap, subst, ◌∙◌, Option, none, some, Option·some-injective, Option·none-ne-some, arith, length-drop, leb-true}
 use Rattle.image.specs.Entry.{Entry}
 use Rattle.image.specs.Table.{Row}
 use Rattle.image.specs.Image.{Tree, unread, leaf, interior, Forest, end, tree, Branch, Inside, node_bytes, node_entries, pairs_of, inside_of, or_none, forest_of, leaf_of, interior_of, tree_at}

@@ -1,6 +1,6 @@
 -- Two neighbouring children of a node as one, as the code weighs and writes them: pivots and suffixes are without what the node lifts.
 -- Definitions only; the laws that join them to `join_at` of laws/Upkeep stand beside.
-use Rattle.image.specs.Prelude.{ℕ, ◌+◌, ◌*◌, List, [], ◌∷◌, ◌++◌, Bool, true, false, ◌&&◌, cond, length, drop, ltb, leb, eqb}
+use Rattle.std.specs.Prelude.{ℕ, ◌+◌, ◌*◌, List, [], ◌∷◌, ◌++◌, Bool, true, false, ◌&&◌, cond, length, drop, ltb, leb, eqb}
 use Rattle.image.specs.Bytes.{u16, shared}
 use Rattle.image.specs.Entry.{Entry, pair, child, message}
 use Rattle.image.specs.Image.{Branch, nodes_of}

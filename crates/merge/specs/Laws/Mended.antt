@@ -1,6 +1,7 @@
 -- Heal as the code takes it, a step at a time: the first two neighbours that fit are joined, the image stays sound with the same table, and
 -- where there are none heal's rule holds. Relies on laws/Upkeep's HealWrite and Rules, and on Search for what the code finds and writes.
-use Rattle.image.specs.Prelude.{ℕ, zero, suc, ◌+◌, ◌*◌, ◌≤◌, ◌<◌, ◌≡◌, refl, sym, ap, ap₂, ◌∙◌, List, [], ◌∷◌, ◌++◌, Bool, true, false, not, cond, true≢false, none, some, Option·some-injective, Option·none-ne-some, arith, length, lt-ltb}
+use Rattle.std.specs.Prelude.{ℕ, zero, suc, ◌+◌, ◌*◌, ◌≤◌, ◌<◌, ◌≡◌, refl, List, [], ◌∷◌, ◌++◌, Bool, true, false, not, cond, length}
+use Rattle.image.specs.Prelude.{sym, ap, ap₂, ◌∙◌, true≢false, none, some, Option·some-injective, Option·none-ne-some, arith, lt-ltb}
 use Rattle.image.specs.Bytes.{shared, u16}
 use Rattle.image.specs.Entry.{Entry}
 use Rattle.image.specs.Image.{Tree, interior, Forest, end, tree, Branch, node_bytes, forest_of, tree_at, tree_of, nodes_of, whole_nodes, header, header_of}

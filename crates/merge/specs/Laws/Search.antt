@@ -1,5 +1,6 @@
 -- The first two neighbours that one node holds, and the store after they are joined: as `first_pair` and `join_at` of laws/Upkeep tell them.
-use Rattle.image.specs.Prelude.{ℕ, zero, suc, ◌+◌, ◌*◌, ◌≤◌, ◌≡◌, refl, sym, ap, ap₂, ◌∙◌, List, [], ◌∷◌, ◌++◌, Bool, true, false, ◌&&◌, not, cond, false≢true, true≢false, Option, none, some, arith, length, eqb, eqb-true, eq-eqb}
+use Rattle.std.specs.Prelude.{ℕ, zero, suc, ◌+◌, ◌*◌, ◌≤◌, ◌≡◌, refl, List, [], ◌∷◌, ◌++◌, Bool, true, false, ◌&&◌, not, cond, length, eqb}
+use Rattle.image.specs.Prelude.{sym, ap, ap₂, ◌∙◌, false≢true, true≢false, Option, none, some, arith, eqb-true, eq-eqb}
 use Rattle.image.specs.Bytes.{before, u16}
 use Rattle.image.specs.Entry.{Message, Entry, child, message}
 use Rattle.image.specs.Table.{Row}

@@ -1,5 +1,6 @@
 -- Entries that weigh no more than a node holds: their numbers are small, and they take so many bytes.
-use Rattle.image.specs.Prelude.{ℕ, ◌+◌, ◌*◌, ◌≤◌, ◌<◌, ◌≡◌, refl, sym, ap, ◌∙◌, List, [], ◌∷◌, ◌++◌, Bool, true, false, ◌&&◌, cond, arith, length, length-append, ltb, leb, leb-true, leb-false, ltb-true}
+use Rattle.std.specs.Prelude.{ℕ, ◌+◌, ◌*◌, ◌≤◌, ◌<◌, ◌≡◌, refl, List, [], ◌∷◌, ◌++◌, Bool, true, false, ◌&&◌, cond, length, ltb, leb}
+use Rattle.image.specs.Prelude.{sym, ap, ◌∙◌, arith, length-append, leb-true, leb-false, ltb-true}
 use Rattle.image.specs.Bytes.{u16}
 use Rattle.image.specs.Entry.{Entry, pair, child, message}
 use Rattle.image.specs.Image.{nodes_of}

@@ -1,6 +1,7 @@
 -- The child at a cursor: what is read where there is one, and where there is none.
 -- Relies on the cursor's contract (Places) and on the children among entries (Own).
-use Rattle.image.specs.Prelude.{ℕ, ◌+◌, ◌≤◌, ◌≡◌, ap, subst, ◌∙◌, List, [], ◌∷◌, arith, length}
+use Rattle.std.specs.Prelude.{ℕ, ◌+◌, ◌≤◌, ◌≡◌, List, [], ◌∷◌, length}
+use Rattle.image.specs.Prelude.{ap, subst, ◌∙◌, arith}
 use Rattle.node.specs.Places.{part, entry_in, Within, Next}
 use Rattle.node.specs.Entries.{listed}
 use Rattle.node.specs.declared.Place.{Place}

@@ -1,5 +1,6 @@
 -- The newest message of a node on a rest, found entry by entry.
-use Rattle.image.specs.Prelude.{ℕ, ◌≡◌, refl, sym, ap, subst, ◌∙◌, List, [], ◌∷◌, Bool, true, false, cond, true≢false, Option, none, some, length}
+use Rattle.std.specs.Prelude.{ℕ, ◌≡◌, refl, List, [], ◌∷◌, Bool, true, false, cond, length}
+use Rattle.image.specs.Prelude.{sym, ap, subst, ◌∙◌, true≢false, Option, none, some}
 use Rattle.image.specs.Bytes.{same, begins}
 use Rattle.image.specs.Entry as defined
 use Rattle.image.specs.Meaning.{Said, nothing, says, says_of, newer}

@@ -1,5 +1,6 @@
 -- Whether entries hold a message, how many they hold, and the steps of the two walks, entry by entry.
-use Rattle.image.specs.Prelude.{ℕ, ◌+◌, arith, ◌≡◌, sym, ◌∙◌, List, [], ◌∷◌, Bool, true, false, cond}
+use Rattle.std.specs.Prelude.{ℕ, ◌+◌, ◌≡◌, List, [], ◌∷◌, Bool, true, false, cond}
+use Rattle.image.specs.Prelude.{arith, sym, ◌∙◌}
 use Rattle.image.specs.Entry as defined
 use Rattle.node.specs.Places.{entry_in}
 use Rattle.node.specs.declared.Place.{Place}

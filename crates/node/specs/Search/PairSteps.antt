@@ -1,6 +1,7 @@
 -- A pair read at a cursor, or that none stands there: what step_pair answers, and the laws of each way out.
 -- Relies on Next of Places (an entry in front of the others) and on Pairs.
-use Rattle.image.specs.Prelude.{ℕ, ◌+◌, ◌-◌, ◌<◌, ◌≤◌, ◌≡◌, refl, sym, subst, ◌∙◌, List, [], none, arith, length}
+use Rattle.std.specs.Prelude.{ℕ, ◌+◌, ◌-◌, ◌<◌, ◌≤◌, ◌≡◌, refl, List, [], length}
+use Rattle.image.specs.Prelude.{sym, subst, ◌∙◌, none, arith}
 use Rattle.image.specs.Bytes.{u16}
 use Rattle.image.specs.Entry as defined
 use Rattle.node.specs.Entries.{entries_from, listed, entries-step, listed-step, kind-pair}

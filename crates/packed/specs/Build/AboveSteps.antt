@@ -1,6 +1,7 @@
 -- Steps of the loop over the levels: one pass makes the level above of the definitions, and one node is left at last.
 -- Rely on specs/Form/Tower for how few nodes a level has, and on specs/Form/Marks for a level by its marks.
-use Rattle.image.specs.Prelude.{ℕ, zero, suc, ◌+◌, ◌*◌, ◌-◌, ◌/◌, ◌≤◌, ◌<◌, ◌≡◌, refl, sym, ap, ap₂, subst, ◌∙◌, List, [], ◌∷◌, ◌++◌, arith, length, drop}
+use Rattle.std.specs.Prelude.{ℕ, zero, suc, ◌+◌, ◌*◌, ◌-◌, ◌/◌, ◌≤◌, ◌<◌, ◌≡◌, refl, List, [], ◌∷◌, ◌++◌, length, drop}
+use Rattle.image.specs.Prelude.{sym, ap, ap₂, subst, ◌∙◌, arith}
 use Rattle.packed.specs.Form.Chunk.{groups}
 use Rattle.packed.specs.Form.Packed.{Item, Built, child_weight, raised, climb, top_of}
 use Rattle.packed.specs.Form.Numbered.{raised-length}

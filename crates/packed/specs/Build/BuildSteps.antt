@@ -1,6 +1,7 @@
 -- The steps of `build` put together: the leaves start the climb, node 0 ends it, and what is written is the promised image.
 -- Rely on specs/Form/Ordered: pages written level by level give the packed image.
-use Rattle.image.specs.Prelude.{ℕ, zero, suc, ◌+◌, ◌*◌, ◌-◌, ◌/◌, ◌≤◌, ◌≡◌, refl, sym, ap, ap₂, subst, ◌∙◌, List, [], ◌++◌, true, arith, length, drop, get_or}
+use Rattle.std.specs.Prelude.{ℕ, zero, suc, ◌+◌, ◌*◌, ◌-◌, ◌/◌, ◌≤◌, ◌≡◌, refl, List, [], ◌++◌, true, length, drop, get_or}
+use Rattle.image.specs.Prelude.{sym, ap, ap₂, subst, ◌∙◌, arith}
 use Rattle.image.specs.Bytes.{u16}
 use Rattle.image.specs.Table.{Row}
 use Rattle.image.specs.Image.{nodes_of}
@@ -11,7 +12,7 @@ use Rattle.packed.specs.Form.Chunk.{groups}
 use Rattle.packed.specs.Form.Packed.{pair_weight, leaves, leaf_level, climb, packed}
 use Rattle.packed.specs.Form.Leaves.{Tabled, tabled}
 use Rattle.packed.specs.Form.Numbered.{leaf_level-length}
-use Rattle.packed.specs.Form.Tower.{room, room-7, Level, leaf-level, few-leaves}
+use Rattle.packed.specs.Form.Tower.{room-7, Level, leaf-level, few-leaves}
 use Rattle.laws.specs.Page.{page, pair_entries, number_of, head_page}
 use Rattle.packed.specs.Form.Tidy.{write_all, image_of}
 use Rattle.packed.specs.Form.Sweep.{own_page, own_pages, climb_pages, order_pages}

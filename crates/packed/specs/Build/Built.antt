@@ -1,6 +1,6 @@
 -- What `build` asks of its callers, and what it promises.
 -- The law `built` (BuiltLaws) turns the contract's equation into the record `Built`.
-use Rattle.image.specs.Prelude.{ℕ, ◌*◌, ◌-◌, ◌/◌, ◌≤◌, ◌≡◌, List, true, false, length}
+use Rattle.std.specs.Prelude.{ℕ, ◌*◌, ◌-◌, ◌/◌, ◌≤◌, ◌≡◌, List, true, false, length}
 use Rattle.image.specs.Table.{Row}
 use Rattle.image.specs.Image.{node_bytes, nodes_of, tree_of}
 use Rattle.image.specs.Sound.{is_in, numbers, once, in_range, sound, table_of}

@@ -1,6 +1,7 @@
 -- Laws for the callers of `build`: what its contract gives, and when rows fit their places.
 -- Rely on specs/Form/Tidy: the packed image is sound, means the table, and is tidied.
-use Rattle.image.specs.Prelude.{ℕ, zero, suc, ◌+◌, ◌*◌, ◌-◌, ◌/◌, ◌≤◌, ◌<◌, ◌≡◌, sym, ap, ◌∙◌, refl, subst, List, [], ◌∷◌, Bool, true, false, arith, length, take, drop, get_or, length-drop, length-take-le, leb, leb-true, leb-false}
+use Rattle.std.specs.Prelude.{ℕ, zero, suc, ◌+◌, ◌*◌, ◌-◌, ◌/◌, ◌≤◌, ◌<◌, ◌≡◌, refl, List, [], ◌∷◌, Bool, true, false, length, take, drop, get_or, leb}
+use Rattle.image.specs.Prelude.{sym, ap, ◌∙◌, subst, arith, length-drop, length-take-le, leb-true, leb-false}
 use Rattle.image.specs.Path.{value_limit}
 use Rattle.image.specs.Image.{nodes_of}
 use Rattle.image.specs.Sound.{is_in, once, in_range, numbers}

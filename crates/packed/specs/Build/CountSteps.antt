@@ -1,6 +1,7 @@
 -- Steps of the loop that lists the numbers from a first one up.
 -- Rely on the laws of puts.
-use Rattle.image.specs.Prelude.{ℕ, zero, suc, ◌+◌, ◌*◌, ◌-◌, ◌/◌, ◌≤◌, ◌<◌, ◌≡◌, refl, sym, ap, ap₂, ◌∙◌, List, [], ◌∷◌, ◌++◌, arith, length, get_or}
+use Rattle.std.specs.Prelude.{ℕ, zero, suc, ◌+◌, ◌*◌, ◌-◌, ◌/◌, ◌≤◌, ◌<◌, ◌≡◌, refl, List, [], ◌∷◌, ◌++◌, length, get_or}
+use Rattle.image.specs.Prelude.{sym, ap, ap₂, ◌∙◌, arith}
 use Rattle.image.specs.Bytes.{u16, u16_bytes}
 use Rattle.packed.specs.Form.Packed.{numbers_from}
 use Rattle.octets.specs.Put.{put, u16-there}

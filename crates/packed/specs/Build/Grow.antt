@@ -1,6 +1,7 @@
 -- One turn of a pass over the rows: the marks of the rows behind row i and before row j go, row i gets the mark of its new node.
 -- The same law serves the leaves, whose rows may carry any marks before, and the levels above. Relies on specs/Rows/Remark.
-use Rattle.image.specs.Prelude.{ℕ, zero, suc, ◌+◌, ◌-◌, ◌≤◌, ◌<◌, ◌≡◌, refl, ap, ap₂, ◌∙◌, ◌⊎◌, inl, inr, List, [], ◌∷◌, ◌++◌, Bool, true, false, arith, ltb, ltb-true, ltb-false}
+use Rattle.std.specs.Prelude.{ℕ, zero, suc, ◌+◌, ◌-◌, ◌≤◌, ◌<◌, ◌≡◌, refl, ◌⊎◌, List, [], ◌∷◌, ◌++◌, Bool, true, false, ltb}
+use Rattle.image.specs.Prelude.{ap, ap₂, ◌∙◌, inl, inr, arith, ltb-true, ltb-false}
 use Rattle.packed.specs.Rows.Area.{rows_of, RowsFit}
 use Rattle.packed.specs.Rows.Branches.{mark_at, low_of_row, branches_of, branches-take}
 use Rattle.packed.specs.Rows.Puts.{put_mark, mark-same, mark-other}

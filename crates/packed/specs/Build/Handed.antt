@@ -1,6 +1,6 @@
 -- The node numbers that a caller hands in: two bytes each, little-endian. The k-th new node takes the k-th number.
 -- Relies on nothing but the two-byte reading of image/specs/Bytes.
-use Rattle.image.specs.Prelude.{ℕ, zero, suc, ◌*◌, ◌-◌, ◌/◌, List, [], ◌∷◌, length}
+use Rattle.std.specs.Prelude.{ℕ, zero, suc, ◌*◌, ◌-◌, ◌/◌, List, [], ◌∷◌, length}
 use Rattle.image.specs.Bytes.{u16}
 
 -- k numbers from the i-th on

@@ -1,6 +1,7 @@
 -- Steps of the pass that writes the leaves and marks the first row of each: what holds before each turn, and one turn.
 -- Rely on specs/Rows/Steps (one leaf, and on) and on the turn of the marks (Grow).
-use Rattle.image.specs.Prelude.{ℕ, zero, suc, ◌+◌, ◌*◌, ◌-◌, ◌/◌, ◌≤◌, ◌<◌, ◌≡◌, refl, sym, ap, ap₂, ◌∙◌, List, [], ◌∷◌, ◌++◌, append_assoc, append-nil, Bool, true, false, arith, length, get_or, ltb, ltb-true, ltb-false}
+use Rattle.std.specs.Prelude.{ℕ, zero, suc, ◌+◌, ◌*◌, ◌-◌, ◌/◌, ◌≤◌, ◌<◌, ◌≡◌, refl, List, [], ◌∷◌, ◌++◌, Bool, true, false, length, get_or, ltb}
+use Rattle.image.specs.Prelude.{sym, ap, ap₂, ◌∙◌, append_assoc, append-nil, arith, ltb-true, ltb-false}
 use Rattle.image.specs.Bytes.{u16, shared}
 use Rattle.laws.specs.Encode.{bytes_of_all}
 use Rattle.image.specs.Sound.{in_range, highest}

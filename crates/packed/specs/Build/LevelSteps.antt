@@ -1,6 +1,7 @@
 -- Steps of the pass that writes one level of interior nodes and makes its marks, with numbers from the list.
 -- Rely on specs/Rows/Branches (one node, and on) and on the turn of the marks (Grow).
-use Rattle.image.specs.Prelude.{ℕ, suc, ◌+◌, ◌*◌, ◌-◌, ◌/◌, ◌≤◌, ◌<◌, ◌≡◌, refl, sym, ap, ap₂, ◌∙◌, List, [], ◌∷◌, ◌++◌, append_assoc, append-nil, true, arith, length}
+use Rattle.std.specs.Prelude.{ℕ, suc, ◌+◌, ◌*◌, ◌-◌, ◌/◌, ◌≤◌, ◌<◌, ◌≡◌, refl, List, [], ◌∷◌, ◌++◌, true, length}
+use Rattle.image.specs.Prelude.{sym, ap, ap₂, ◌∙◌, append_assoc, append-nil, arith}
 use Rattle.image.specs.Bytes.{u16}
 use Rattle.image.specs.Sound.{in_range}
 use Rattle.laws.specs.WriteNode.{write_node}

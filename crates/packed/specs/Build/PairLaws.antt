@@ -1,6 +1,7 @@
 -- Laws of the pairs of a leaf: row by row, where a row's path and value stand, and that a leaf fits in its node.
 -- Rely on specs/Rows/Steps (where a leaf ends) for the last.
-use Rattle.image.specs.Prelude.{ℕ, ◌+◌, ◌*◌, ◌-◌, ◌≤◌, ◌<◌, ◌≡◌, refl, sym, ap, ap₂, ◌∙◌, List, [], ◌++◌, append-nil, arith, length, take, drop, get_or, lt-ltb, le-ltb}
+use Rattle.std.specs.Prelude.{ℕ, ◌+◌, ◌*◌, ◌-◌, ◌≤◌, ◌<◌, ◌≡◌, refl, List, [], ◌++◌, length, take, drop, get_or}
+use Rattle.image.specs.Prelude.{sym, ap, ap₂, ◌∙◌, append-nil, arith, lt-ltb, le-ltb}
 use Rattle.image.specs.Bytes.{shared}
 use Rattle.image.specs.Entry.{pair}
 use Rattle.image.specs.Sound.{highest}

@@ -1,6 +1,7 @@
 -- Steps of the leaf writer: the rows go into the page one after the other, and the page is written with its header.
 -- Rely on the page writer's algebra (octets/specs/Put) and on the laws of pairs.
-use Rattle.image.specs.Prelude.{ℕ, ◌+◌, ◌*◌, ◌-◌, ◌≤◌, ◌≡◌, ap, ◌∙◌, List, arith, length}
+use Rattle.std.specs.Prelude.{ℕ, ◌+◌, ◌*◌, ◌-◌, ◌≤◌, ◌≡◌, List, length}
+use Rattle.image.specs.Prelude.{ap, ◌∙◌, arith}
 use Rattle.image.specs.Bytes.{u16_bytes}
 use Rattle.laws.specs.Encode.{bytes_of_all}
 use Rattle.packed.specs.Form.Packed.{short_rows}

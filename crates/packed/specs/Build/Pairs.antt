@@ -1,6 +1,6 @@
 -- The pairs of the rows from i up to j, as the bytes of a leaf, without the first k bytes of each path.
 -- These name what the leaf writer's contracts cite; the page itself is `leaf_page` of specs/Rows/Steps.
-use Rattle.image.specs.Prelude.{ℕ, ◌+◌, ◌*◌, ◌-◌, List, cond, length, get_or, ltb}
+use Rattle.std.specs.Prelude.{ℕ, ◌+◌, ◌*◌, ◌-◌, List, cond, length, get_or, ltb}
 use Rattle.image.specs.Bytes.{shared}
 use Rattle.laws.specs.Encode.{bytes_of_all}
 use Rattle.packed.specs.Form.Packed.{short_rows}

@@ -1,6 +1,6 @@
 -- What the passes of `build` promise: the leaves, one level above, all levels above. The code knows a level by its marks alone; the definitions of
 -- specs/Form say which level that is.
-use Rattle.image.specs.Prelude.{ℕ, ◌+◌, ◌*◌, ◌-◌, ◌≤◌, ◌≡◌, List, [], length}
+use Rattle.std.specs.Prelude.{ℕ, ◌+◌, ◌*◌, ◌-◌, ◌≤◌, ◌≡◌, List, [], length}
 use Rattle.image.specs.Image.{Branch}
 use Rattle.packed.specs.Form.Chunk.{groups}
 use Rattle.packed.specs.Form.Packed.{pair_weight, leaf_level, leaves, Item, Built, climb}

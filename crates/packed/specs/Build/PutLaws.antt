@@ -1,6 +1,7 @@
 -- What a put leaves of the bytes before it and behind it, and that its own bytes are there.
 -- Relies on octets/specs/Put.
-use Rattle.image.specs.Prelude.{ℕ, ◌+◌, ◌-◌, ◌≤◌, ◌<◌, ◌≡◌, sym, ap, ◌∙◌, List, ◌++◌, append_assoc, arith, length, take, drop, get_or, length-append, length-drop, take-append-drop, length-take-le, drop-drop, drop-append-le, take-append-le, drop-append-add, drop_at, take-append_seam, get_or-take, get_or-drop}
+use Rattle.std.specs.Prelude.{ℕ, ◌+◌, ◌-◌, ◌≤◌, ◌<◌, ◌≡◌, List, ◌++◌, length, take, drop, get_or}
+use Rattle.image.specs.Prelude.{sym, ap, ◌∙◌, append_assoc, arith, length-append, length-drop, take-append-drop, length-take-le, drop-drop, drop-append-le, take-append-le, drop-append-add, drop_at, take-append_seam, get_or-take, get_or-drop}
 use Rattle.octets.specs.Put.{put}
 
 -- a part before a seam

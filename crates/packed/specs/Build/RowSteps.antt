@@ -1,6 +1,7 @@
 -- Steps of the row writer and of the loop that clears the area.
 -- Rely on the laws of puts.
-use Rattle.image.specs.Prelude.{ℕ, zero, suc, ◌+◌, ◌*◌, ◌≤◌, ◌<◌, ◌≡◌, refl, sym, ap, ap₂, subst, ◌∙◌, List, [], ◌∷◌, ◌++◌, append_assoc, Bool, true, false, arith, length, take, drop, get_or, set, length-append, length-drop, length-replicate, length-set, drop-drop, drop-append-add, take_at, set_split, ltb, ltb-true, ltb-false}
+use Rattle.std.specs.Prelude.{ℕ, zero, suc, ◌+◌, ◌*◌, ◌≤◌, ◌<◌, ◌≡◌, refl, List, [], ◌∷◌, ◌++◌, Bool, true, false, length, take, drop, get_or, set, ltb}
+use Rattle.image.specs.Prelude.{sym, ap, ap₂, subst, ◌∙◌, append_assoc, arith, length-append, length-drop, length-replicate, length-set, drop-drop, drop-append-add, take_at, set_split, ltb-true, ltb-false}
 use Rattle.laws.specs.Page.{zeros_of}
 use Rattle.packed.specs.Rows.Area.{row_at, rows_of, RowsFit}
 use Rattle.octets.specs.Put.{put, put_one, put-put, put-size}

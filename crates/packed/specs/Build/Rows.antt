@@ -1,6 +1,6 @@
 -- What a caller is told who puts the rows into the area.
 -- A row is path length, value length, u16 mark, 64 bytes for the path, 60 for the value (specs/Rows/Area).
-use Rattle.image.specs.Prelude.{ℕ, ◌+◌, ◌*◌, ◌≡◌, List, [], ◌∷◌, ◌++◌, drop}
+use Rattle.std.specs.Prelude.{ℕ, ◌+◌, ◌*◌, ◌≡◌, List, [], ◌∷◌, ◌++◌, drop}
 use Rattle.packed.specs.Rows.Area.{rows_of, RowsFit}
 
 -- row i is (path, value), the rows before it and the bytes behind it are as before

@@ -1,5 +1,6 @@
 -- Lists whose low pivots (or keys) strictly rise, up to a high one.
-use Rattle.image.specs.Prelude.{ℕ, ◌≡◌, refl, subst, List, [], ◌∷◌, ◌++◌, true, false, length, drop}
+use Rattle.std.specs.Prelude.{ℕ, ◌≡◌, refl, List, [], ◌∷◌, ◌++◌, true, false, length, drop}
+use Rattle.image.specs.Prelude.{subst}
 use Rattle.image.specs.Bytes.{before, shared}
 use Rattle.image.specs.Path.{owns}
 use Rattle.octets.specs.Order.{before-trans, before-asym, le-before}

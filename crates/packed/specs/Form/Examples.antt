@@ -1,5 +1,5 @@
 -- The definitions compute.
-use Rattle.image.specs.Prelude.{ℕ, zero, suc, ◌≡◌, refl, List, [], ◌∷◌, length, replicate}
+use Rattle.std.specs.Prelude.{ℕ, zero, suc, ◌≡◌, refl, List, [], ◌∷◌, length, replicate}
 use Rattle.image.specs.Bytes.{shared}
 use Rattle.image.specs.Path.{value_limit}
 use Rattle.image.specs.Table.{Row}

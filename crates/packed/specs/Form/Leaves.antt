@@ -1,5 +1,6 @@
 -- The leaf level: its nodes are sound, and hold the rows of the table in order.
-use Rattle.image.specs.Prelude.{ℕ, ◌≤◌, ◌≡◌, refl, sym, ap₂, subst, ◌∙◌, List, [], ◌∷◌, ◌++◌, Bool, true, false, ◌&&◌, cond, arith, length, drop, get_or, leb, eqb, leb-true, lt-ltb, eqb-true}
+use Rattle.std.specs.Prelude.{ℕ, ◌≤◌, ◌≡◌, refl, List, [], ◌∷◌, ◌++◌, Bool, true, false, ◌&&◌, cond, length, drop, get_or, leb, eqb}
+use Rattle.image.specs.Prelude.{sym, ap₂, subst, ◌∙◌, arith, leb-true, lt-ltb, eqb-true}
 use Rattle.image.specs.Bytes.{before, shared}
 use Rattle.image.specs.Path.{owns, well_formed, reads_on, letter, path_limit, value_fits, value_limit}
 use Rattle.image.specs.Table.{Row, every_key, under_prefix, leads, rising}

@@ -1,6 +1,7 @@
 -- The way of the code: rows with a mark "a node starts here, numbered x" (0: none), one sweep over them for each level. A level is known by its
 -- marks alone: the numbers and the low pivots of its nodes. No tree is looked at.
-use Rattle.image.specs.Prelude.{ℕ, suc, ◌+◌, ◌≡◌, refl, sym, ap, ap₂, ◌∙◌, List, [], ◌∷◌, Bool, true, false, arith, length, drop, get_or, leb}
+use Rattle.std.specs.Prelude.{ℕ, suc, ◌+◌, ◌≡◌, refl, List, [], ◌∷◌, Bool, true, false, length, drop, get_or, leb}
+use Rattle.image.specs.Prelude.{sym, ap, ap₂, ◌∙◌, arith}
 use Rattle.image.specs.Bytes.{shared}
 use Rattle.image.specs.Entry.{Entry, child}
 use Rattle.image.specs.Image.{Branch}

@@ -1,5 +1,6 @@
 -- Neat: all leaves at the same depth, no message, every node's entries at most 1,016 bytes, every stored pivot at most 65.
-use Rattle.image.specs.Prelude.{ℕ, zero, suc, ◌+◌, ◌-◌, ◌≤◌, ◌≡◌, refl, List, [], ◌∷◌, ◌++◌, true, arith, length, drop, get_or, length-drop}
+use Rattle.std.specs.Prelude.{ℕ, zero, suc, ◌+◌, ◌-◌, ◌≤◌, ◌≡◌, refl, List, [], ◌∷◌, ◌++◌, true, length, drop, get_or}
+use Rattle.image.specs.Prelude.{arith, length-drop}
 use Rattle.image.specs.Bytes.{shared}
 use Rattle.image.specs.Entry.{Message}
 use Rattle.image.specs.Table.{Row}

@@ -1,5 +1,6 @@
 -- The numbers of the nodes: each number that is handed in is used once.
-use Rattle.image.specs.Prelude.{ℕ, zero, suc, ◌+◌, ◌≤◌, ◌<◌, ◌≡◌, refl, sym, ap, ap₂, ◌∙◌, List, [], ◌∷◌, ◌++◌, append_assoc, Bool, true, false, ◌&&◌, ◌||◌, not, cond, true≢false, arith, length, take, drop, get_or, length-append, ltb, leb, eqb, le-leb, lt-ltb, leb-true, ltb-true, eq-eqb, eqb-true}
+use Rattle.std.specs.Prelude.{ℕ, zero, suc, ◌+◌, ◌≤◌, ◌<◌, ◌≡◌, refl, List, [], ◌∷◌, ◌++◌, Bool, true, false, ◌&&◌, ◌||◌, not, cond, length, take, drop, get_or, ltb, leb, eqb}
+use Rattle.image.specs.Prelude.{sym, ap, ap₂, ◌∙◌, append_assoc, true≢false, arith, length-append, le-leb, lt-ltb, leb-true, ltb-true, eq-eqb, eqb-true}
 use Rattle.image.specs.Bytes.{shared}
 use Rattle.image.specs.Table.{Row}
 use Rattle.image.specs.Image.{leaf}

@@ -1,7 +1,8 @@
 -- The image written level by level is the packed image. And where pages go to free nodes only, a store in which some of them are written and node 0
 -- is the old one still holds the old tree (request S-12).
 -- Relies on Sweep (the pages in order), Tidy and Stored (the packed image), and on laws' Frame and WriteNode.
-use Rattle.image.specs.Prelude.{◌⊎◌, inl, inr, ℕ, ◌+◌, ◌*◌, ◌/◌, ◌≤◌, ◌≡◌, sym, ◌∙◌, List, true, false, arith, length}
+use Rattle.std.specs.Prelude.{◌⊎◌, ℕ, ◌+◌, ◌*◌, ◌/◌, ◌≤◌, ◌≡◌, List, true, false, length}
+use Rattle.image.specs.Prelude.{inl, inr, sym, ◌∙◌, arith}
 use Rattle.image.specs.Table.{Row}
 use Rattle.image.specs.Image.{node_bytes, header_of, header, tree_of}
 use Rattle.image.specs.Sound.{numbers, is_in, once, in_range, sound, table_of}
@@ -15,7 +16,7 @@ use Rattle.packed.specs.Form.Numbered.{times, times-in, in-times, times-once, on
 use Rattle.laws.specs.Page.{number_of, head_page, head-length}
 use Rattle.packed.specs.Form.Pages.{Written}
 use Rattle.packed.specs.Form.Stored.{written-stays, HoldsTree}
-use Rattle.packed.specs.Form.Tidy.{Page, page_numbers, write_all, PageFits, In, all-length, all-other, all_same, range-ready, zero-out, pages, image_of, Table, built-holds, built-other, built-packs, root-parts, one-over}
+use Rattle.packed.specs.Form.Tidy.{Page, page_numbers, write_all, PageFits, In, all-length, all-other, all_same, range-ready, zero-out, image_of, Table, built-holds, built-other, built-packs, root-parts, one-over}
 use Rattle.packed.specs.Form.Sweep.{order_pages, Ordered, ordered}
 
 -- any list of pages that makes up a tree, written in any order, and node 0 last

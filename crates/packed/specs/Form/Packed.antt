@@ -1,5 +1,5 @@
 -- The packed form of a table (request S-10): a tree that a rising table decides, given the numbers of the nodes in the order in which they are used.
-use Rattle.image.specs.Prelude.{ℕ, zero, suc, ◌+◌, List, [], ◌∷◌, length, get_or, drop}
+use Rattle.std.specs.Prelude.{ℕ, zero, suc, ◌+◌, List, [], ◌∷◌, length, get_or, drop}
 use Rattle.image.specs.Bytes.{shared}
 use Rattle.image.specs.Path.{path_limit, value_limit}
 use Rattle.image.specs.Table.{Row}

@@ -1,5 +1,6 @@
 -- The bytes of a tree's nodes, and that they read back.
-use Rattle.image.specs.Prelude.{ℕ, zero, suc, ◌≤◌, ◌≡◌, refl, sym, ap, ap₂, subst, ◌∙◌, List, [], ◌∷◌, ◌++◌, true, arith, length, length-append, le-leb}
+use Rattle.std.specs.Prelude.{ℕ, zero, suc, ◌≤◌, ◌≡◌, refl, List, [], ◌∷◌, ◌++◌, true, length}
+use Rattle.image.specs.Prelude.{sym, ap, ap₂, subst, ◌∙◌, arith, length-append, le-leb}
 use Rattle.image.specs.Table.{Row}
 use Rattle.image.specs.Image.{Tree, unread, leaf, interior, Forest, end, tree, node_bytes, forest_of, leaf_of, interior_of, or_none, tree_at}
 use Rattle.laws.specs.Encode.{rest_of, bytes_of, bytes_of_all, allowed, all_allowed}

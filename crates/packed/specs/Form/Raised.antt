@@ -1,5 +1,6 @@
 -- A level above: its nodes are sound, and hold the same rows.
-use Rattle.image.specs.Prelude.{ℕ, ◌≡◌, refl, sym, ap, ap₂, subst, ◌∙◌, List, [], ◌∷◌, ◌++◌, append_assoc, true, length, drop, get_or}
+use Rattle.std.specs.Prelude.{ℕ, ◌≡◌, refl, List, [], ◌∷◌, ◌++◌, true, length, drop, get_or}
+use Rattle.image.specs.Prelude.{sym, ap, ap₂, subst, ◌∙◌, append_assoc}
 use Rattle.image.specs.Bytes.{before, shared}
 use Rattle.image.specs.Image.{interior}
 use Rattle.image.specs.Meaning.{high_of, rows, rows_in, apply_all}

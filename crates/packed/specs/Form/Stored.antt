@@ -1,5 +1,6 @@
 -- An image that holds the packed tree is sound, means the table, and is tidied.
-use Rattle.image.specs.Prelude.{ℕ, zero, suc, ◌*◌, ◌/◌, ◌≤◌, ◌<◌, ◌≡◌, refl, ◌∙◌, List, [], true, arith, length, le-leb, lt-ltb, eq-eqb}
+use Rattle.std.specs.Prelude.{ℕ, zero, suc, ◌*◌, ◌/◌, ◌≤◌, ◌<◌, ◌≡◌, refl, List, [], true, length}
+use Rattle.image.specs.Prelude.{◌∙◌, arith, le-leb, lt-ltb, eq-eqb}
 use Rattle.image.specs.Table.{Row}
 use Rattle.image.specs.Image.{Tree, unread, leaf, interior, Forest, end, tree, node_bytes, nodes_of, header_of, tree_of}
 use Rattle.image.specs.Sound.{numbers, numbers_in, once, in_range, sound_header, sound, table_of}

@@ -1,5 +1,6 @@
 -- The image of request S-10: node 0, the pages of the packed tree, zeros elsewhere. It is one image for one map.
-use Rattle.image.specs.Prelude.{ℕ, zero, suc, ◌+◌, ◌*◌, ◌-◌, ◌/◌, ◌≤◌, ◌<◌, ◌↔◌, ◌≡◌, refl, sym, ap, ap₂, ◌∙◌, List, [], ◌∷◌, ◌++◌, Bool, true, false, ◌&&◌, ◌||◌, not, false≢true, true≢false, arith, length, take, drop, length-replicate, length-drop, take-append-drop, drop-drop, ltb, leb, eqb, leb-true, ltb-true, eq-eqb, ne_eqb, eqb-true}
+use Rattle.std.specs.Prelude.{ℕ, zero, suc, ◌+◌, ◌*◌, ◌-◌, ◌/◌, ◌≤◌, ◌<◌, ◌↔◌, ◌≡◌, refl, List, [], ◌∷◌, ◌++◌, Bool, true, false, ◌&&◌, ◌||◌, not, length, take, drop, ltb, leb, eqb}
+use Rattle.image.specs.Prelude.{sym, ap, ap₂, ◌∙◌, false≢true, true≢false, arith, length-replicate, length-drop, take-append-drop, drop-drop, leb-true, ltb-true, eq-eqb, ne_eqb, eqb-true}
 use Rattle.image.specs.Path.{well_formed}
 use Rattle.image.specs.Table.{Row, rising, every_key}
 use Rattle.image.specs.Image.{Tree, unread, leaf, interior, Forest, end, tree, node_bytes, tree_of}

@@ -1,5 +1,6 @@
 -- Level by level: what the whole packed tree keeps.
-use Rattle.image.specs.Prelude.{ℕ, zero, suc, ◌+◌, ◌*◌, ◌-◌, ◌/◌, ◌≤◌, ◌<◌, ◌≡◌, refl, sym, ap, subst, ◌∙◌, List, [], ◌∷◌, append-nil, Bool, true, false, arith, length, take, drop, length-drop, take-add, length-take-le, leb, le-leb, leb-true, leb-false, lt-ltb, eq-eqb, ne_eqb}
+use Rattle.std.specs.Prelude.{ℕ, zero, suc, ◌+◌, ◌*◌, ◌-◌, ◌/◌, ◌≤◌, ◌<◌, ◌≡◌, refl, List, [], ◌∷◌, Bool, true, false, length, take, drop, leb}
+use Rattle.image.specs.Prelude.{sym, ap, subst, ◌∙◌, append-nil, arith, length-drop, take-add, length-take-le, le-leb, leb-true, leb-false, lt-ltb, eq-eqb, ne_eqb}
 use Rattle.image.specs.Table.{Row}
 use Rattle.image.specs.Meaning.{rows}
 use Rattle.image.specs.Sound.{sound_tree, numbers, is_in, once, in_range, lowest, highest, sound_root}

@@ -1,6 +1,7 @@
 -- The loop that writes the entries of the rows from one to another into a page, one row after the other: what holds before each turn.
 -- Said of any entries; `bytes n t` are those of the n rows from row t on, and `step` and `done` say that they follow each other.
-use Rattle.image.specs.Prelude.{ℕ, ◌+◌, ◌-◌, ◌<◌, ◌≤◌, ◌≡◌, refl, sym, ap, ◌∙◌, List, [], ◌++◌, arith, length, length-append}
+use Rattle.std.specs.Prelude.{ℕ, ◌+◌, ◌-◌, ◌<◌, ◌≤◌, ◌≡◌, refl, List, [], ◌++◌, length}
+use Rattle.image.specs.Prelude.{sym, ap, ◌∙◌, arith, length-append}
 use Rattle.octets.specs.Put.{put, put-put, put-nil, put-size}
 
 module _ (bytes : ℕ → ℕ → List ℕ) where

@@ -1,5 +1,6 @@
 -- Child entries put into a page, and where a row's path stands in the area without its first bytes.
-use Rattle.image.specs.Prelude.{ℕ, zero, suc, ◌+◌, ◌*◌, ◌-◌, ◌≤◌, ◌<◌, ◌≡◌, refl, sym, ap, ap₂, ◌∙◌, List, [], ◌∷◌, ◌++◌, append_assoc, append-nil, Bool, true, false, cond, arith, ◌≢◌, eqb, ltb, eq-eqb, ne_eqb, eqb-true, eqb-false, lt-ltb, le-ltb, ltb-true, ltb-false, length, take, drop, get_or, drop_of_length-le, drop-drop, take-nil}
+use Rattle.std.specs.Prelude.{ℕ, zero, suc, ◌+◌, ◌*◌, ◌-◌, ◌≤◌, ◌<◌, ◌≡◌, refl, List, [], ◌∷◌, ◌++◌, Bool, true, false, cond, ◌≢◌, eqb, ltb, length, take, drop, get_or}
+use Rattle.image.specs.Prelude.{sym, ap, ap₂, ◌∙◌, append_assoc, append-nil, arith, eq-eqb, ne_eqb, eqb-true, eqb-false, lt-ltb, le-ltb, ltb-true, ltb-false, drop_of_length-le, drop-drop, take-nil}
 use Rattle.image.specs.Entry.{child}
 use Rattle.image.specs.Image.{Branch}
 use Rattle.laws.specs.Encode.{bytes_of, bytes_of_all}

@@ -1,5 +1,6 @@
 -- The lifted prefix, and a whole interior page.
-use Rattle.image.specs.Prelude.{ℕ, suc, ◌+◌, ◌*◌, ◌-◌, ◌≤◌, ◌<◌, ◌≡◌, refl, sym, ap, ◌∙◌, List, arith, length}
+use Rattle.std.specs.Prelude.{ℕ, suc, ◌+◌, ◌*◌, ◌-◌, ◌≤◌, ◌<◌, ◌≡◌, refl, List, length}
+use Rattle.image.specs.Prelude.{sym, ap, ◌∙◌, arith}
 use Rattle.image.specs.Bytes.{shared, u16_bytes}
 use Rattle.image.specs.Sound.{highest}
 use Rattle.laws.specs.Encode.{bytes_of_all}

@@ -1,5 +1,6 @@
 -- One level above, marks and pages.
-use Rattle.image.specs.Prelude.{ℕ, suc, ◌+◌, ◌-◌, ◌≤◌, ◌<◌, ◌≡◌, ap, List, [], ◌∷◌, arith, length, drop, length-append, length-drop}
+use Rattle.std.specs.Prelude.{ℕ, suc, ◌+◌, ◌-◌, ◌≤◌, ◌<◌, ◌≡◌, List, [], ◌∷◌, length, drop}
+use Rattle.image.specs.Prelude.{ap, arith, length-append, length-drop}
 use Rattle.image.specs.Bytes.{shared}
 use Rattle.image.specs.Entry.{child}
 use Rattle.image.specs.Image.{Branch}

@@ -1,5 +1,6 @@
 -- Rows of 128 bytes: path length, value length, u16 mark, 64 bytes for the path, 60 for the value.
-use Rattle.image.specs.Prelude.{ℕ, zero, suc, ◌+◌, ◌*◌, ◌-◌, ◌≤◌, ◌<◌, ◌≡◌, ap₂, List, [], ◌∷◌, arith, length, take, drop, get_or, length-drop, length-take-le}
+use Rattle.std.specs.Prelude.{ℕ, zero, suc, ◌+◌, ◌*◌, ◌-◌, ◌≤◌, ◌<◌, ◌≡◌, List, [], ◌∷◌, length, take, drop, get_or}
+use Rattle.image.specs.Prelude.{ap₂, arith, length-drop, length-take-le}
 use Rattle.image.specs.Table.{Row}
 use Rattle.packed.specs.Form.Chunk.{end_of}
 use Rattle.packed.specs.Form.Packed.{pair_weight}

@@ -1,5 +1,6 @@
 -- The level that the marks of an area say, and one node of the level above.
-use Rattle.image.specs.Prelude.{ℕ, zero, suc, ◌+◌, ◌*◌, ◌-◌, ◌≤◌, ◌<◌, ◌≡◌, refl, sym, ap, ◌∙◌, List, [], ◌∷◌, cond, arith, length, get_or, eqb, eq-eqb, ne_eqb}
+use Rattle.std.specs.Prelude.{ℕ, zero, suc, ◌+◌, ◌*◌, ◌-◌, ◌≤◌, ◌<◌, ◌≡◌, refl, List, [], ◌∷◌, cond, length, get_or, eqb}
+use Rattle.image.specs.Prelude.{sym, ap, ◌∙◌, arith, eq-eqb, ne_eqb}
 use Rattle.image.specs.Bytes.{shared, u16}
 use Rattle.image.specs.Image.{Branch}
 use Rattle.image.specs.Sound.{highest}

@@ -1,5 +1,6 @@
 -- A mark written: the rows stay, the other marks stay.
-use Rattle.image.specs.Prelude.{ℕ, ◌+◌, ◌*◌, ◌-◌, ◌/◌, ◌%◌, ◌≤◌, ◌<◌, ◌≡◌, refl, ap, ap₂, ◌∙◌, ◌⊎◌, inl, inr, List, Bool, true, false, arith, length, take, drop, get_or, set, length-set, get_or-set_same, get_or-set_other, drop-set-lt, drop-set-add, take-set-le, ltb, ltb-true, ltb-false}
+use Rattle.std.specs.Prelude.{ℕ, ◌+◌, ◌*◌, ◌-◌, ◌/◌, ◌%◌, ◌≤◌, ◌<◌, ◌≡◌, refl, ◌⊎◌, List, Bool, true, false, length, take, drop, get_or, set, ltb}
+use Rattle.image.specs.Prelude.{ap, ap₂, ◌∙◌, inl, inr, arith, length-set, get_or-set_same, get_or-set_other, drop-set-lt, drop-set-add, take-set-le, ltb-true, ltb-false}
 use Rattle.image.specs.Bytes.{u16}
 use Rattle.packed.specs.Rows.Area.{row_at}
 use Rattle.packed.specs.Rows.Branches.{mark_at}

@@ -1,5 +1,6 @@
 -- One turn of the loop that makes the marks of the level above: the marks of a group go, its first row gets the new node's number.
-use Rattle.image.specs.Prelude.{ℕ, zero, suc, ◌+◌, ◌*◌, ◌-◌, ◌≤◌, ◌<◌, ◌≡◌, refl, sym, ap, ap₂, ◌∙◌, ◌≢◌, List, [], ◌∷◌, ◌++◌, Bool, true, false, arith, length, get_or, eqb, eqb-true, eqb-false}
+use Rattle.std.specs.Prelude.{ℕ, zero, suc, ◌+◌, ◌*◌, ◌-◌, ◌≤◌, ◌<◌, ◌≡◌, refl, ◌≢◌, List, [], ◌∷◌, ◌++◌, Bool, true, false, length, get_or, eqb}
+use Rattle.image.specs.Prelude.{sym, ap, ap₂, ◌∙◌, arith, eqb-true, eqb-false}
 use Rattle.packed.specs.Rows.Area.{row_at, RowsFit}
 use Rattle.packed.specs.Rows.Branches.{mark_at, low_of_row, branch_at, branches_of, branches-take, branches-pass, low-length}
 use Rattle.packed.specs.Rows.Puts.{put_mark, put-length, put_byte, mark-same, mark-other, row_stays}

@@ -1,5 +1,6 @@
 -- What the loop over the rows needs of the definitions: one leaf, and on.
-use Rattle.image.specs.Prelude.{ℕ, zero, suc, ◌+◌, ◌-◌, ◌≤◌, ◌<◌, ◌≡◌, refl, sym, ap, List, [], ◌∷◌, arith, length}
+use Rattle.std.specs.Prelude.{ℕ, zero, suc, ◌+◌, ◌-◌, ◌≤◌, ◌<◌, ◌≡◌, refl, List, [], ◌∷◌, length}
+use Rattle.image.specs.Prelude.{sym, ap, arith}
 use Rattle.image.specs.Bytes.{shared}
 use Rattle.image.specs.Sound.{highest}
 use Rattle.laws.specs.Encode.{bytes_of_all}

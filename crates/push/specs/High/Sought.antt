@@ -1,5 +1,6 @@
 -- What the search for a node's high pivot promises, and what it relies on at the children of a node. Definitions only.
-use Rattle.image.specs.Prelude.{ℕ, ◌≤◌, ◌≡◌, List, ◌∷◌, true, Option, none, some, length, take}
+use Rattle.std.specs.Prelude.{ℕ, ◌≤◌, ◌≡◌, List, ◌∷◌, true, length, take}
+use Rattle.image.specs.Prelude.{Option, none, some}
 use Rattle.image.specs.Image.{nodes_of, forest_of, tree_at}
 use Rattle.laws.specs.Reading.Relative.{usable_in}
 use Rattle.node.specs.Places.{part, Within}

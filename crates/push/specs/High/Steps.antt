@@ -1,10 +1,11 @@
 -- Step lemmas of the search for a node's high pivot: a leaf, the node itself, a node above it, and children one after another.
 -- Relies on Laws/High and on what a usable node is (lookup: Look).
-use Rattle.image.specs.Prelude.{ℕ, zero, suc, ◌+◌, ◌-◌, ◌<◌, ◌≤◌, ◌≡◌, refl, sym, ap, ap₂, subst, ◌∙◌, List, [], ◌∷◌, Bool, true, false, cond, Option, none, some, arith, length, take, drop, take-append_seam, eqb, eq-eqb, ne_eqb}
+use Rattle.std.specs.Prelude.{ℕ, zero, suc, ◌+◌, ◌-◌, ◌<◌, ◌≤◌, ◌≡◌, refl, List, [], ◌∷◌, Bool, true, false, cond, length, take, drop, eqb}
+use Rattle.image.specs.Prelude.{sym, ap, ap₂, subst, ◌∙◌, Option, none, some, arith, take-append_seam, eq-eqb, ne_eqb}
 use Rattle.image.specs.Bytes.{u16, shared}
 use Rattle.image.specs.Entry.{Message}
 use Rattle.image.specs.Table.{Row}
-use Rattle.image.specs.Image.{Tree, interior, Forest, end, tree, Branch, nodes_of, node_bytes, node_entries, pairs_of, or_none, leaf_of, forest_of, tree_at, tree_of}
+use Rattle.image.specs.Image.{Tree, interior, Forest, Branch, nodes_of, node_bytes, node_entries, pairs_of, or_none, leaf_of, forest_of, tree_at, tree_of}
 use Rattle.image.specs.Sound.{sound, highest}
 use Rattle.image.specs.Meaning.{high_of}
 use Rattle.octets.specs.Put.{put}

@@ -1,6 +1,6 @@
 -- What the messages of a node bring to one of its children: pivots and suffixes are without what the node lifts. Definitions only.
 -- Relies on PushDown's `touches` and `lowered`; ArrivingLaws joins it to `sent_all` of laws/Upkeep.
-use Rattle.image.specs.Prelude.{ℕ, List, [], ◌∷◌, ◌++◌, cond, length, drop}
+use Rattle.std.specs.Prelude.{ℕ, List, [], ◌∷◌, ◌++◌, cond, length, drop}
 use Rattle.image.specs.Bytes.{shared}
 use Rattle.image.specs.Entry.{Message, puts, drops, clears, Entry, pair, child, message}
 use Rattle.laws.specs.Encode.{bytes_of}

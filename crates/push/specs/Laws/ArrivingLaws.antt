@@ -1,6 +1,7 @@
 -- What arrives at the children, told from inside the node, is what the flush of laws/Upkeep sends them: `each-under`.
 -- Relies on laws' PushDown and on Room of laws/Upkeep, where pivots and messages are full; here the node's lifted prefix is left away.
-use Rattle.image.specs.Prelude.{ℕ, ◌≡◌, refl, sym, ap, ap₂, ◌∙◌, List, [], ◌∷◌, ◌++◌, append_assoc, append-nil, Bool, true, false, ◌||◌, cond, length, drop}
+use Rattle.std.specs.Prelude.{ℕ, ◌≡◌, refl, List, [], ◌∷◌, ◌++◌, Bool, true, false, ◌||◌, cond, length, drop}
+use Rattle.image.specs.Prelude.{sym, ap, ap₂, ◌∙◌, append_assoc, append-nil}
 use Rattle.image.specs.Bytes.{begins, shared}
 use Rattle.image.specs.Entry.{Message, puts, drops, clears, Entry, pair, child, message}
 use Rattle.image.specs.Table.{Row}

@@ -1,5 +1,6 @@
 -- The high pivot of a node without what the node lifts, found from the root down. Definitions only; HighLaws joins it to `reachable_at`.
-use Rattle.image.specs.Prelude.{ℕ, List, [], cond, Option, none, some, drop, eqb}
+use Rattle.std.specs.Prelude.{ℕ, List, [], cond, drop, eqb}
+use Rattle.image.specs.Prelude.{Option, none, some}
 use Rattle.image.specs.Image.{Tree, unread, leaf, interior, Forest, end, tree}
 use Rattle.image.specs.Meaning.{high_of}
 use Rattle.laws.specs.Reading.Relative.{lifts}

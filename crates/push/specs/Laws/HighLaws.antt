@@ -1,6 +1,7 @@
 -- The high pivot that is found from the root down is that of the reachable node of this number, without what the node lifts.
 -- Relies on `place-append` (laws/Upkeep/Healed).
-use Rattle.image.specs.Prelude.{ℕ, ◌-◌, ◌≡◌, refl, sym, ap, ap₂, ◌∙◌, List, [], ◌++◌, append_assoc, Bool, true, false, cond, false≢true, Option, none, some, Option·some-injective, Option·none-ne-some, length, drop, length-append, drop-append-add, eqb}
+use Rattle.std.specs.Prelude.{ℕ, ◌-◌, ◌≡◌, refl, List, [], ◌++◌, Bool, true, false, cond, length, drop, eqb}
+use Rattle.image.specs.Prelude.{sym, ap, ap₂, ◌∙◌, append_assoc, false≢true, Option, none, some, Option·some-injective, Option·none-ne-some, length-append, drop-append-add}
 use Rattle.image.specs.Bytes.{shared}
 use Rattle.image.specs.Table.{Row}
 use Rattle.image.specs.Image.{Tree, unread, leaf, interior, Forest, end, tree}

@@ -1,6 +1,7 @@
 -- A leaf that took messages reads as the leaf whose pairs are those after the messages: `leaf-takes`.
 -- Relies on LeafRoom for sizes and on ReadBack for pages.
-use Rattle.image.specs.Prelude.{ℕ, ◌+◌, ◌*◌, ◌≤◌, ◌≡◌, refl, sym, ap, subst, ◌∙◌, List, [], ◌∷◌, ◌++◌, Bool, true, false, not, cond, false≢true, Option, none, some, Option·some-injective, Option·none-ne-some, arith, length}
+use Rattle.std.specs.Prelude.{ℕ, ◌+◌, ◌*◌, ◌≤◌, ◌≡◌, refl, List, [], ◌∷◌, ◌++◌, Bool, true, false, not, cond, length}
+use Rattle.image.specs.Prelude.{sym, ap, subst, ◌∙◌, false≢true, Option, none, some, Option·some-injective, Option·none-ne-some, arith}
 use Rattle.image.specs.Bytes.{u16, same, before, begins, shared}
 use Rattle.image.specs.Path.{below}
 use Rattle.image.specs.Entry.{Message, puts, drops, clears, Entry, pair, child, message, entries_of}

@@ -1,6 +1,7 @@
 -- The room of a leaf that takes messages, and that nothing but the child that takes them is written.
 -- Relies on Only; TakesLaws and the code's loop over the children use `child-only` and `rooms-on`.
-use Rattle.image.specs.Prelude.{ℕ, zero, suc, ◌+◌, ◌*◌, ◌-◌, ◌≤◌, ◌≡◌, refl, sym, ap, subst, ◌∙◌, List, [], ◌∷◌, ◌++◌, Bool, true, false, ◌&&◌, not, cond, Option, none, some, arith, length, take, drop, length-append, length-drop, take-append-drop, ltb, leb, eqb, leb-true, le-leb}
+use Rattle.std.specs.Prelude.{ℕ, zero, suc, ◌+◌, ◌*◌, ◌-◌, ◌≤◌, ◌≡◌, refl, List, [], ◌∷◌, ◌++◌, Bool, true, false, ◌&&◌, not, cond, length, take, drop, ltb, leb, eqb}
+use Rattle.image.specs.Prelude.{sym, ap, subst, ◌∙◌, Option, none, some, arith, length-append, length-drop, take-append-drop, leb-true, le-leb}
 use Rattle.image.specs.Bytes.{u16, same, before, begins, shared}
 use Rattle.image.specs.Entry.{Message, puts, drops, clears, Entry, pair, child, message, entry_of}
 use Rattle.image.specs.Image.{Branch, node_bytes, nodes_of}

@@ -1,6 +1,6 @@
 -- A leaf that takes messages: its pairs after each, and the store with its page written anew. Definitions only.
 -- A put keeps the pairs before its key and those after it, with its own between them; LeafLaws joins this to `apply`.
-use Rattle.image.specs.Prelude.{ℕ, List, [], ◌∷◌, ◌++◌, Bool, not, cond, length}
+use Rattle.std.specs.Prelude.{ℕ, List, [], ◌∷◌, ◌++◌, Bool, not, cond, length}
 use Rattle.image.specs.Bytes.{same, before, begins, shared}
 use Rattle.image.specs.Entry.{Message, puts, drops, clears, Entry, pair, child, message}
 use Rattle.laws.specs.Encode.{bytes_of_all}

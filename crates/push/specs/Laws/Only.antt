@@ -1,6 +1,7 @@
 -- A store in which one node is written anew, and the room of the other nodes in it.
 -- Relies on WriteNode's laws; LeafRoom, TakesLaws and the code's loop over the children use it.
-use Rattle.image.specs.Prelude.{ℕ, ◌+◌, ◌*◌, ◌-◌, ◌≤◌, ◌≡◌, refl, sym, ap, ap₂, ◌∙◌, List, [], ◌∷◌, ◌++◌, true, false, ◌&&◌, not, arith, length, drop, length-append, length-take, ltb, leb, eqb, leb-true, eqb-false}
+use Rattle.std.specs.Prelude.{ℕ, ◌+◌, ◌*◌, ◌-◌, ◌≤◌, ◌≡◌, refl, List, [], ◌∷◌, ◌++◌, true, false, ◌&&◌, not, length, drop, ltb, leb, eqb}
+use Rattle.image.specs.Prelude.{sym, ap, ap₂, ◌∙◌, arith, length-append, length-take, leb-true, eqb-false}
 use Rattle.image.specs.Bytes.{u16}
 use Rattle.image.specs.Entry.{Entry}
 use Rattle.image.specs.Image.{Branch, node_bytes, nodes_of}

@@ -1,6 +1,7 @@
 -- A flush by one level as the code writes it keeps the image sound and its table, and meets flush's rule: `pushed-down`.
 -- Relies on laws/Upkeep's site of a node and its bridge to the image, on TakesLaws for the children, and on HighLaws for the high pivot.
-use Rattle.image.specs.Prelude.{ℕ, suc, ◌+◌, ◌*◌, ◌-◌, ◌≤◌, ◌<◌, ◌≡◌, refl, sym, ap, ap₂, subst, ◌∙◌, List, [], ◌∷◌, ◌++◌, append-nil, Bool, true, false, ◌&&◌, ◌||◌, false≢true, Option, none, some, Option·some-injective, arith, length, leb, eqb, eqb-false, ne_eqb, leb-true, leb-false, ltb-true, lt-ltb}
+use Rattle.std.specs.Prelude.{ℕ, suc, ◌+◌, ◌*◌, ◌-◌, ◌≤◌, ◌<◌, ◌≡◌, refl, List, [], ◌∷◌, ◌++◌, Bool, true, false, ◌&&◌, ◌||◌, length, leb, eqb}
+use Rattle.image.specs.Prelude.{sym, ap, ap₂, subst, ◌∙◌, append-nil, false≢true, Option, none, some, Option·some-injective, arith, eqb-false, ne_eqb, leb-true, leb-false, ltb-true, lt-ltb}
 use Rattle.image.specs.Bytes.{u16, shared}
 use Rattle.image.specs.Entry.{Message, Entry, entries_of}
 use Rattle.image.specs.Image.{unread, leaf, interior, Forest, end, tree, Branch, Inside, entry_bytes, node_bytes, node_entries, inside_of, or_none, forest_of, interior_of, tree_at, tree_of, nodes_of, whole_nodes, header_of}

@@ -1,6 +1,7 @@
 -- Pages that are written read back: bytes of entries after bytes of entries, a node with its children alone, an interior node with more
 -- messages. Relies on Encode and on laws' `page`.
-use Rattle.image.specs.Prelude.{ℕ, ◌≤◌, ◌≡◌, refl, sym, ap, ◌∙◌, List, [], ◌∷◌, ◌++◌, append_assoc, Bool, true, false, ◌&&◌, none, some, Option·none-ne-some, arith, length, leb, eqb, leb-true, eqb-true}
+use Rattle.std.specs.Prelude.{ℕ, ◌≤◌, ◌≡◌, refl, List, [], ◌∷◌, ◌++◌, Bool, true, false, ◌&&◌, length, leb, eqb}
+use Rattle.image.specs.Prelude.{sym, ap, ◌∙◌, append_assoc, none, some, Option·none-ne-some, arith, leb-true, eqb-true}
 use Rattle.image.specs.Bytes.{u16}
 use Rattle.image.specs.Entry.{Message, Entry, child, message, entries_of}
 use Rattle.image.specs.Image.{Branch, Inside, laid_out, entry_bytes, node_entries, messages_of, no_branches, branch_then, inside_of}

@@ -1,5 +1,5 @@
 -- The store after a flush by one level, as the code writes it: each child in turn, then the node with its children alone. Definitions only.
-use Rattle.image.specs.Prelude.{ℕ, ◌+◌, ◌*◌, List, [], ◌∷◌, ◌++◌, Bool, true, ◌&&◌, cond, length, ltb, leb, eqb}
+use Rattle.std.specs.Prelude.{ℕ, ◌+◌, ◌*◌, List, [], ◌∷◌, ◌++◌, Bool, true, ◌&&◌, cond, length, ltb, leb, eqb}
 use Rattle.image.specs.Bytes.{u16}
 use Rattle.image.specs.Entry.{Entry, child}
 use Rattle.image.specs.Image.{Branch, nodes_of}

@@ -1,6 +1,7 @@
 -- The rows below a path, as next tells of them: whether there are any, and whether all pass a test.
 -- Relies on laws/specs/Formed (every row follows the empty path).
-use Rattle.image.specs.Prelude.{ℕ, ◌≡◌, refl, sym, ap, ◌∙◌, List, [], ◌∷◌, Bool, true, false, not, none, some, arith, cases}
+use Rattle.std.specs.Prelude.{ℕ, ◌≡◌, refl, List, [], ◌∷◌, Bool, true, false, not}
+use Rattle.image.specs.Prelude.{sym, ap, ◌∙◌, none, some, arith, cases}
 use Rattle.image.specs.Path.{below, well_formed}
 use Rattle.image.specs.Table.{Row, every_key, rows_below, first_key, least_after, rising}
 use Rattle.image.specs.Calls.{is_empty}

@@ -1,7 +1,8 @@
 -- Question 9 of the rows below `from` alone: the rows that stay are well formed already, and of a row that moves only the rest after `from`
 -- is judged, after `to` was fed to the shape of a path.
 -- Relies on path/specs/Shape (feeding in pieces) and slice/specs/Moving/MovedRows (rows below a path, as a test).
-use Rattle.image.specs.Prelude.{ℕ, ◌≡◌, refl, sym, ap₂, ◌∙◌, List, [], ◌∷◌, Bool, true, ◌&&◌, not, length, drop}
+use Rattle.std.specs.Prelude.{ℕ, ◌≡◌, refl, List, [], ◌∷◌, Bool, true, ◌&&◌, not, length, drop}
+use Rattle.image.specs.Prelude.{sym, ap₂, ◌∙◌}
 use Rattle.image.specs.Bytes.{begins}
 use Rattle.image.specs.Path.{well_formed}
 use Rattle.image.specs.Table.{Row, every_key, rows_below, without_below, renamed, put_all, moved}

@@ -1,6 +1,7 @@
 -- The quick yes of question 9: where `to` has no more components and no more bytes than `from`, every rest that follows `from` follows `to`.
 -- Relies on path/specs/Shape.
-use Rattle.image.specs.Prelude.{ℕ, suc, ◌≤◌, ◌<◌, ◌≡◌, refl, sym, ap, ◌∙◌, List, [], ◌∷◌, append-nil, Bool, true, false, ◌&&◌, false≢true, arith, length, drop, leb, ltb, eqb, le-leb, leb-true, lt-ltb, ltb-true, eqb-true}
+use Rattle.std.specs.Prelude.{ℕ, suc, ◌≤◌, ◌<◌, ◌≡◌, refl, List, [], ◌∷◌, Bool, true, false, ◌&&◌, length, drop, leb, ltb, eqb}
+use Rattle.image.specs.Prelude.{sym, ap, ◌∙◌, append-nil, false≢true, arith, le-leb, leb-true, lt-ltb, ltb-true, eqb-true}
 use Rattle.image.specs.Bytes.{begins}
 use Rattle.image.specs.Path.{letter, path_limit, well_formed}
 use Rattle.image.specs.Table.{Row, every_key}

@@ -1,6 +1,7 @@
 -- The steps of the questions as code.
 -- Relies on successor/specs/BufferSteps (what next hands back) and on Below, Judge and Shorter.
-use Rattle.image.specs.Prelude.{ℕ, ◌<◌, ◌≤◌, ◌≡◌, refl, sym, ap, ap₂, ◌∙◌, List, [], Bool, true, false, not, length, drop, leb, ltb, le-leb, lt-leb, le-ltb, lt-ltb, leb-true, leb-false, cases}
+use Rattle.std.specs.Prelude.{ℕ, ◌<◌, ◌≤◌, ◌≡◌, refl, List, [], Bool, true, false, not, length, drop, leb, ltb}
+use Rattle.image.specs.Prelude.{sym, ap, ap₂, ◌∙◌, le-leb, lt-leb, le-ltb, lt-ltb, leb-true, leb-false, cases}
 use Rattle.image.specs.Bytes.{same, begins}
 use Rattle.image.specs.Path.{well_formed, proper_beginning, may_move}
 use Rattle.image.specs.Table.{Row, rows_below, least_after, moved, every_key, rising}

@@ -1,6 +1,6 @@
 -- What the questions of a move decide, as a function of both paths and the table; and what a caller of ask_later is told.
 -- Relies on questions' Passed and on the paper's definitions.
-use Rattle.image.specs.Prelude.{ℕ, ◌≡◌, List, true, false, not, cond}
+use Rattle.std.specs.Prelude.{ℕ, ◌≡◌, List, true, false, not, cond}
 use Rattle.image.specs.Bytes.{same}
 use Rattle.image.specs.Path.{well_formed, may_move}
 use Rattle.image.specs.Table.{Row, rows_below, moved, every_key}

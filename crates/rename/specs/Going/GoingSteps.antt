@@ -1,6 +1,7 @@
 -- The steps of the questions of a move.
 -- Relies on specs/Prepare/Moved (each refusal's contract).
-use Rattle.image.specs.Prelude.{ℕ, ◌≡◌, refl, sym, subst, ◌∙◌, List, Bool, true, false, not, cond}
+use Rattle.std.specs.Prelude.{ℕ, ◌≡◌, refl, List, Bool, true, false, not, cond}
+use Rattle.image.specs.Prelude.{sym, subst, ◌∙◌}
 use Rattle.image.specs.Bytes.{same}
 use Rattle.image.specs.Path.{well_formed, may_move}
 use Rattle.image.specs.Table.{Row, rows_below, moved, every_key}

@@ -1,6 +1,7 @@
 -- The call move from its steps: the questions in order, the path that stays, and the swing with the live count made right.
 -- Relies on slice/Moving's swung (what the swing leaves), on Prepared, and on finish's Finished.
-use Rattle.image.specs.Prelude.{ℕ, zero, suc, ◌+◌, ◌*◌, ◌-◌, ◌/◌, ◌≤◌, ◌≡◌, refl, sym, ap, ap₂, subst, ◌∙◌, List, Bool, true, false, ◌&&◌, not, false≢true, arith, length, take, drop, length-take-le}
+use Rattle.std.specs.Prelude.{ℕ, zero, suc, ◌+◌, ◌*◌, ◌-◌, ◌/◌, ◌≤◌, ◌≡◌, refl, List, Bool, true, false, ◌&&◌, not, length, take, drop}
+use Rattle.image.specs.Prelude.{sym, ap, ap₂, subst, ◌∙◌, false≢true, arith, length-take-le}
 use Rattle.image.specs.Bytes.{same, begins}
 use Rattle.image.specs.Path.{well_formed, proper_beginning, may_move}
 use Rattle.image.specs.Table.{rows_below, moved, every_key}

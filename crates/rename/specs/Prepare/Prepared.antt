@@ -1,6 +1,6 @@
 -- A store that is ready for the swing, and how it came from the store before.
 -- Relies on slice/Moving's Free (what the swing asks of the free nodes) and on the paper's definitions.
-use Rattle.image.specs.Prelude.{ℕ, ◌+◌, ◌*◌, ◌≤◌, ◌≡◌, List, Bool, true, ◌&&◌, length, drop, leb}
+use Rattle.std.specs.Prelude.{ℕ, ◌+◌, ◌*◌, ◌≤◌, ◌≡◌, List, Bool, true, ◌&&◌, length, drop, leb}
 use Rattle.image.specs.Image.{nodes_of, header_of}
 use Rattle.image.specs.Sound.{sound, table_of}
 use Rattle.image.specs.Upkeep.{settled}

@@ -1,6 +1,7 @@
 -- The steps of make_ready.
 -- Relies on swing/specs/Spare (the marks show the free nodes) and rebuild's Rebuilt.
-use Rattle.image.specs.Prelude.{ℕ, zero, suc, ◌+◌, ◌*◌, ◌-◌, ◌/◌, ◌<◌, ◌≤◌, ◌≡◌, refl, sym, ap, ap₂, subst, ◌∙◌, List, ◌∷◌, ◌++◌, Bool, true, false, ◌&&◌, false≢true, arith, length, take, drop, get_or-take, length-take-le, take-append_seam, eqb, leb, le-leb, lt-leb, leb-true, eqb-true, cases}
+use Rattle.std.specs.Prelude.{ℕ, zero, suc, ◌+◌, ◌*◌, ◌-◌, ◌/◌, ◌<◌, ◌≤◌, ◌≡◌, refl, List, ◌∷◌, ◌++◌, Bool, true, false, ◌&&◌, length, take, drop, eqb, leb}
+use Rattle.image.specs.Prelude.{sym, ap, ap₂, subst, ◌∙◌, false≢true, arith, get_or-take, length-take-le, take-append_seam, le-leb, lt-leb, leb-true, eqb-true, cases}
 use Rattle.image.specs.Bytes.{u16}
 use Rattle.image.specs.Image.{nodes_of, whole_nodes, header_of, tree_of}
 use Rattle.image.specs.Sound.{is_in, numbers as nodes}

@@ -1,6 +1,7 @@
 -- A move of a path to itself leaves the table: the rows below it are set aside and come back.
 -- Relies on the order's laws (octets) and on laws' rising tables.
-use Rattle.image.specs.Prelude.{ℕ, ◌≡◌, refl, sym, ap, ap₂, ◌∙◌, List, [], ◌∷◌, Bool, true, false, cond, false≢true, cases}
+use Rattle.std.specs.Prelude.{ℕ, ◌≡◌, refl, List, [], ◌∷◌, Bool, true, false, cond}
+use Rattle.image.specs.Prelude.{sym, ap, ap₂, ◌∙◌, false≢true, cases}
 use Rattle.image.specs.Bytes.{same, before, begins}
 use Rattle.image.specs.Path.{below}
 use Rattle.image.specs.Table.{Row, with_row, rows_below, without_below, renamed, put_all, moved, every_key, leads, rising}

@@ -1,5 +1,6 @@
 -- The free nodes, rising: a supply that a move may use.
-use Rattle.image.specs.Prelude.{ℕ, zero, suc, ◌+◌, ◌*◌, ◌-◌, ◌≤◌, ◌<◌, ◌≡◌, refl, ap, ◌∙◌, List, [], ◌∷◌, true, false, cond, false≢true, arith, length, eqb, eqb-true, ne_eqb, le-leb, lt-ltb, cases}
+use Rattle.std.specs.Prelude.{ℕ, zero, suc, ◌+◌, ◌*◌, ◌-◌, ◌≤◌, ◌<◌, ◌≡◌, refl, List, [], ◌∷◌, true, false, cond, length, eqb}
+use Rattle.image.specs.Prelude.{ap, ◌∙◌, false≢true, arith, eqb-true, ne_eqb, le-leb, lt-ltb, cases}
 use Rattle.image.specs.Image.{nodes_of, header_of, tree_of}
 use Rattle.image.specs.Sound.{numbers, is_in, once, in_range}
 use Rattle.image.specs.Upkeep.{used, free_nodes}

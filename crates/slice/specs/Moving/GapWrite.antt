@@ -1,6 +1,7 @@
 -- The numbers that the slices of a move take, and the chain of empty nodes that stands where a range was cut out, written into an image.
 -- Relies on the laws of slices (Slicing) and of the move (MoveLaws).
-use Rattle.image.specs.Prelude.{ℕ, zero, suc, ◌+◌, ◌*◌, ◌-◌, ◌≤◌, ◌≡◌, refl, sym, ap, subst, ◌∙◌, List, [], Bool, true, false, false≢true, arith, length}
+use Rattle.std.specs.Prelude.{ℕ, zero, suc, ◌+◌, ◌*◌, ◌-◌, ◌≤◌, ◌≡◌, refl, List, [], Bool, true, false, length}
+use Rattle.image.specs.Prelude.{sym, ap, subst, ◌∙◌, false≢true, arith}
 use Rattle.image.specs.Entry.{pivot_limit}
 use Rattle.image.specs.Bytes.{before}
 use Rattle.image.specs.Image.{Tree, leaf, Forest, end, tree, tree_at}

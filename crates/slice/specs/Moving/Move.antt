@@ -1,6 +1,6 @@
 -- The move: a settled tree cut at the ends of two ranges, and a new root over the parts. Cuts go from the right to the left, each on what lies left
 -- of the one before.
-use Rattle.image.specs.Prelude.{ℕ, ◌*◌, List, [], true, cond}
+use Rattle.std.specs.Prelude.{ℕ, ◌*◌, List, [], true, cond}
 use Rattle.image.specs.Bytes.{before}
 use Rattle.image.specs.Image.{Tree, Forest, tree}
 use Rattle.image.specs.Sound.{highest}

@@ -1,5 +1,6 @@
 -- The swing as one theorem: on a settled store of at most 7 levels with the free nodes that it takes. Demand 3's bound leaves more.
-use Rattle.image.specs.Prelude.{ℕ, ◌+◌, ◌*◌, ◌≤◌, ◌≡◌, List, true, false, arith, length}
+use Rattle.std.specs.Prelude.{ℕ, ◌+◌, ◌*◌, ◌≤◌, ◌≡◌, List, true, false, length}
+use Rattle.image.specs.Prelude.{arith}
 use Rattle.image.specs.Bytes.{begins}
 use Rattle.image.specs.Path.{well_formed}
 use Rattle.image.specs.Table.{every_key, moved}

@@ -1,5 +1,6 @@
 -- The move on a store: the image that moved_image gives, with node 0 written last.
-use Rattle.image.specs.Prelude.{ℕ, zero, suc, ◌+◌, ◌*◌, ◌≤◌, ◌<◌, ◌≡◌, refl, sym, ap, ◌∙◌, List, [], ◌∷◌, true, false, ◌&&◌, arith, length, get_or, leb, ltb, ne_eqb, ltb-true}
+use Rattle.std.specs.Prelude.{ℕ, zero, suc, ◌+◌, ◌*◌, ◌≤◌, ◌<◌, ◌≡◌, refl, List, [], ◌∷◌, true, false, ◌&&◌, length, get_or, leb, ltb}
+use Rattle.image.specs.Prelude.{sym, ap, ◌∙◌, arith, ne_eqb, ltb-true}
 use Rattle.image.specs.Bytes.{begins}
 use Rattle.image.specs.Path.{well_formed}
 use Rattle.image.specs.Table.{every_key, moved}

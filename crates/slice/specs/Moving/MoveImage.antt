@@ -1,5 +1,6 @@
 -- The move on images: an image that holds the moved tree in free nodes is sound, means the moved table, and differs in at most 10 × L + 2 nodes.
-use Rattle.image.specs.Prelude.{ℕ, zero, suc, ◌+◌, ◌*◌, ◌≤◌, ◌<◌, ◌≡◌, refl, sym, ap, ◌∙◌, List, [], ◌∷◌, Bool, true, false, ◌&&◌, not, cond, true≢false, arith, length, drop, get_or, drop-cons, eqb, leb, ltb, eqb-true, ne_eqb, eq-eqb, le-leb, leb-true, lt-ltb, ltb-true, cases}
+use Rattle.std.specs.Prelude.{ℕ, zero, suc, ◌+◌, ◌*◌, ◌≤◌, ◌<◌, ◌≡◌, refl, List, [], ◌∷◌, Bool, true, false, ◌&&◌, not, cond, length, drop, get_or, eqb, leb, ltb}
+use Rattle.image.specs.Prelude.{sym, ap, ◌∙◌, true≢false, arith, drop-cons, eqb-true, ne_eqb, eq-eqb, le-leb, leb-true, lt-ltb, ltb-true, cases}
 use Rattle.image.specs.Bytes.{same, begins}
 use Rattle.image.specs.Path.{well_formed, below}
 use Rattle.image.specs.Table.{Row, every_key, rows_below, without_below, renamed, moved}

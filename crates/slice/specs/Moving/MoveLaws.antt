@@ -1,6 +1,7 @@
 -- The move is right: a sound root of one level more, whose table is the moved table; every node fits; and no number stands in it oftener than in the
 -- old tree and among 10 × h + 1 new ones.
-use Rattle.image.specs.Prelude.{ℕ, zero, suc, ◌+◌, ◌*◌, ◌-◌, ◌≤◌, ◌≡◌, refl, sym, ap, ap₂, subst, ◌∙◌, List, [], ◌++◌, append-nil, true, false, false≢true, arith, length, length-append, le-leb, cases}
+use Rattle.std.specs.Prelude.{ℕ, zero, suc, ◌+◌, ◌*◌, ◌-◌, ◌≤◌, ◌≡◌, refl, List, [], ◌++◌, true, false, length}
+use Rattle.image.specs.Prelude.{sym, ap, ap₂, subst, ◌∙◌, append-nil, false≢true, arith, length-append, le-leb, cases}
 use Rattle.image.specs.Bytes.{same, before, begins, shared}
 use Rattle.image.specs.Path.{owns, well_formed}
 use Rattle.image.specs.Entry.{pivot_limit}

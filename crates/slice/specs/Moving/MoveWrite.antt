@@ -1,5 +1,6 @@
 -- The move written into an image: eight slices into free nodes, one after another, then the new root. What is read back is the moved tree.
-use Rattle.image.specs.Prelude.{ℕ, suc, ◌+◌, ◌*◌, ◌≤◌, ◌≡◌, refl, ap, subst, ◌∙◌, List, [], Bool, true, false, cond, arith, length}
+use Rattle.std.specs.Prelude.{ℕ, suc, ◌+◌, ◌*◌, ◌≤◌, ◌≡◌, refl, List, [], Bool, true, false, cond, length}
+use Rattle.image.specs.Prelude.{ap, subst, ◌∙◌, arith}
 use Rattle.image.specs.Entry.{pivot_limit}
 use Rattle.image.specs.Bytes.{same, before, begins}
 use Rattle.image.specs.Image.{Tree, tree, tree_at}

@@ -1,5 +1,6 @@
 -- A move on a table, part by part: the parts that two ranges leave, with the moved rows in their new place.
-use Rattle.image.specs.Prelude.{ℕ, ◌≡◌, refl, sym, ap, ap₂, ◌∙◌, List, [], ◌∷◌, ◌++◌, append-nil, append_assoc, Bool, true, false, ◌&&◌, not, cases}
+use Rattle.std.specs.Prelude.{ℕ, ◌≡◌, refl, List, [], ◌∷◌, ◌++◌, Bool, true, false, ◌&&◌, not}
+use Rattle.image.specs.Prelude.{sym, ap, ap₂, ◌∙◌, append-nil, append_assoc, cases}
 use Rattle.image.specs.Bytes.{same, before, begins}
 use Rattle.image.specs.Path.{below, owns, well_formed}
 use Rattle.image.specs.Table.{Row, every_key, leads, rising, with_row, rows_below, without_below, renamed, put_all, moved}

@@ -1,5 +1,5 @@
 -- Why cuts go from the right to the left: a right part cut once more can leave a pivot of more than 65 bytes, where a left part cannot.
-use Rattle.image.specs.Prelude.{ℕ, ◌+◌, ◌≡◌, refl, List, [], ◌∷◌, ◌++◌, true, false, ◌&&◌, replicate}
+use Rattle.std.specs.Prelude.{ℕ, ◌+◌, ◌≡◌, refl, List, [], ◌∷◌, ◌++◌, true, false, ◌&&◌, replicate}
 use Rattle.image.specs.Bytes.{same, before, shared}
 use Rattle.image.specs.Path.{owns}
 use Rattle.image.specs.Table.{every_key, under_prefix, rising}

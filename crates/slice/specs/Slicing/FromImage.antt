@@ -1,15 +1,16 @@
 -- The tree of a sound, settled image is of the level that node 0 gives, holds no message, and each of its nodes fits.
-use Rattle.image.specs.Prelude.{ℕ, zero, suc, ◌+◌, ◌-◌, ◌≤◌, ◌≡◌, refl, sym, ap, ◌∙◌, List, [], ◌∷◌, ◌++◌, Bool, true, false, ◌&&◌, cond, false≢true, Option, none, some, Option·some-injective, Option·none-ne-some, arith, length, take, drop, length-append, length-drop, length-take, leb, eqb, le-leb, leb-true, cases}
+use Rattle.std.specs.Prelude.{ℕ, zero, suc, ◌+◌, ◌-◌, ◌≤◌, ◌≡◌, refl, List, [], ◌∷◌, ◌++◌, Bool, true, false, ◌&&◌, cond, length, take, drop, leb, eqb}
+use Rattle.image.specs.Prelude.{sym, ap, ◌∙◌, false≢true, Option, none, some, Option·some-injective, Option·none-ne-some, arith, length-append, length-drop, length-take, le-leb, leb-true, cases}
 use Rattle.image.specs.Bytes.{u16, shared}
 use Rattle.octets.specs.Order.{and_left, and_right}
 use Rattle.laws.specs.Rising.{both}
 use Rattle.image.specs.Entry.{Message, puts, drops, clears, Entry, pair, child, message, keyed, pointer, entry_of, entry_then, read_all, entries_of}
 use Rattle.image.specs.Table.{Row}
-use Rattle.image.specs.Image.{Tree, unread, tree, Branch, Inside, node_bytes, laid_out, entry_bytes, node_entries, pair_then, pairs_of, messages_of, no_branches, branch_then, inside_of, forest_of, leaf_of, interior_of, or_none, tree_at, header_of, tree_of}
+use Rattle.image.specs.Image.{Tree, unread, Branch, Inside, node_bytes, laid_out, entry_bytes, node_entries, pair_then, pairs_of, messages_of, no_branches, branch_then, inside_of, forest_of, leaf_of, interior_of, or_none, tree_at, header_of, tree_of}
 use Rattle.image.specs.Meaning.{high_of}
 use Rattle.image.specs.Sound.{sound_tree, sound_forest, sound, lowest, highest}
 use Rattle.laws.specs.LookupTable.{Parts, parts, inner}
-use Rattle.image.specs.Upkeep.{reachable_nodes, holds_no_message, settled}
+use Rattle.image.specs.Upkeep.{reachable_nodes, settled}
 use Rattle.laws.specs.Encode.{rest_of, allowed, all_allowed}
 use Rattle.laws.specs.LiveCount.{quiet-still}
 use Rattle.laws.specs.Pieces.{levelled, levelled_in, Good}

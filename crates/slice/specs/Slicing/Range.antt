@@ -1,5 +1,6 @@
 -- The range of a path: from it up to it followed by FF.
-use Rattle.image.specs.Prelude.{ℕ, suc, ◌≤◌, ◌≡◌, refl, sym, ap, ◌∙◌, List, [], ◌∷◌, ◌++◌, append-nil, Bool, true, false, ◌&&◌, ◌||◌, false≢true, true≢false, arith, length, length-append, eqb, leb, ltb, eqb-true, leb-true, lt-ltb, eq-eqb, le-ltb, cases}
+use Rattle.std.specs.Prelude.{ℕ, suc, ◌≤◌, ◌≡◌, refl, List, [], ◌∷◌, ◌++◌, Bool, true, false, ◌&&◌, ◌||◌, length, eqb, leb, ltb}
+use Rattle.image.specs.Prelude.{sym, ap, ◌∙◌, append-nil, false≢true, true≢false, arith, length-append, eqb-true, leb-true, lt-ltb, eq-eqb, le-ltb, cases}
 use Rattle.image.specs.Bytes.{before, begins, shared}
 use Rattle.image.specs.Path.{letter, reads_on, path_limit, well_formed, owns}
 use Rattle.image.specs.Sound.{highest}

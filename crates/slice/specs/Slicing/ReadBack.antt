@@ -1,5 +1,6 @@
 -- A node's page, and that it reads back: what joins a written image to the trees of the slices.
-use Rattle.image.specs.Prelude.{ℕ, suc, ◌≤◌, ◌≡◌, refl, ap, ap₂, List, [], ◌∷◌, ◌++◌, true, arith, length, length-append, leb}
+use Rattle.std.specs.Prelude.{ℕ, suc, ◌≤◌, ◌≡◌, refl, List, [], ◌∷◌, ◌++◌, true, length, leb}
+use Rattle.image.specs.Prelude.{ap, ap₂, arith, length-append}
 use Rattle.octets.specs.Order.{and_left, and_right}
 use Rattle.laws.specs.Rising.{both}
 use Rattle.image.specs.Table.{Row}

@@ -1,5 +1,6 @@
 -- The right parts and tails written into an image.
-use Rattle.image.specs.Prelude.{ℕ, zero, suc, ◌+◌, ◌*◌, ◌≤◌, ◌≡◌, refl, sym, ap, subst, ◌∙◌, List, [], ◌∷◌, ◌++◌, Bool, true, false, ◌&&◌, ◌||◌, cond, false≢true, arith, length, leb, eqb-true, cases}
+use Rattle.std.specs.Prelude.{ℕ, zero, suc, ◌+◌, ◌*◌, ◌≤◌, ◌≡◌, refl, List, [], ◌∷◌, ◌++◌, Bool, true, false, ◌&&◌, ◌||◌, cond, length, leb}
+use Rattle.image.specs.Prelude.{sym, ap, subst, ◌∙◌, false≢true, arith, eqb-true, cases}
 use Rattle.image.specs.Bytes.{before, begins, shared}
 use Rattle.image.specs.Entry.{Message, pivot_limit}
 use Rattle.image.specs.Table.{Row, under_prefix}

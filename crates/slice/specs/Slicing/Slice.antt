@@ -1,6 +1,6 @@
 -- The slices of a settled tree at a cut k strictly inside its range. New nodes take their numbers from `fresh`, the list of free nodes, from place
 -- `at` on.
-use Rattle.image.specs.Prelude.{ℕ, suc, List, [], ◌++◌, Bool, true, false, cond}
+use Rattle.std.specs.Prelude.{ℕ, suc, List, [], ◌++◌, Bool, true, false, cond}
 use Rattle.image.specs.Bytes.{before, shared}
 use Rattle.image.specs.Table.{under_prefix}
 use Rattle.image.specs.Image.{Tree, unread, leaf, interior, Forest, end, tree}

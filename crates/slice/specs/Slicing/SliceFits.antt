@@ -1,5 +1,6 @@
 -- The nodes of the two parts of a cut fit, where those of the whole do.
-use Rattle.image.specs.Prelude.{ℕ, zero, suc, ◌+◌, ◌*◌, ◌-◌, ◌≤◌, ◌≡◌, refl, ◌∙◌, List, [], ◌∷◌, ◌++◌, Bool, true, false, ◌&&◌, ◌||◌, false≢true, arith, length, length-append, length-drop, leb, leb-true, le-leb, cases}
+use Rattle.std.specs.Prelude.{ℕ, zero, suc, ◌+◌, ◌*◌, ◌-◌, ◌≤◌, ◌≡◌, refl, List, [], ◌∷◌, ◌++◌, Bool, true, false, ◌&&◌, ◌||◌, length, leb}
+use Rattle.image.specs.Prelude.{◌∙◌, false≢true, arith, length-append, length-drop, leb-true, le-leb, cases}
 use Rattle.image.specs.Bytes.{before, begins, shared}
 use Rattle.image.specs.Entry.{pivot_limit}
 use Rattle.image.specs.Table.{Row, under_prefix}

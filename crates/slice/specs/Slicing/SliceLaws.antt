@@ -1,5 +1,6 @@
 -- A cut parts a settled sound tree: both parts are sound for their own ranges, of the same level, and hold the rows of their ranges.
-use Rattle.image.specs.Prelude.{ℕ, zero, suc, ◌≡◌, refl, sym, ap, ap₂, subst, ◌∙◌, List, [], ◌∷◌, ◌++◌, append-nil, Bool, true, false, not, false≢true, cases}
+use Rattle.std.specs.Prelude.{ℕ, zero, suc, ◌≡◌, refl, List, [], ◌∷◌, ◌++◌, Bool, true, false, not}
+use Rattle.image.specs.Prelude.{sym, ap, ap₂, subst, ◌∙◌, append-nil, false≢true, cases}
 use Rattle.image.specs.Bytes.{before, shared}
 use Rattle.image.specs.Path.{owns}
 use Rattle.image.specs.Table.{Row, every_key, under_prefix}

@@ -1,5 +1,6 @@
 -- The node numbers of the two parts of a cut: each number stands in them at most as often as in the whole and among the new ones.
-use Rattle.image.specs.Prelude.{ℕ, zero, suc, ◌+◌, ◌≤◌, ◌≡◌, refl, ap, ap₂, ◌∙◌, List, [], ◌∷◌, ◌++◌, Bool, true, false, cond, false≢true, arith, eqb, eqb-true, ne_eqb, eq-eqb, cases}
+use Rattle.std.specs.Prelude.{ℕ, zero, suc, ◌+◌, ◌≤◌, ◌≡◌, refl, List, [], ◌∷◌, ◌++◌, Bool, true, false, cond, eqb}
+use Rattle.image.specs.Prelude.{ap, ap₂, ◌∙◌, false≢true, arith, eqb-true, ne_eqb, eq-eqb, cases}
 use Rattle.image.specs.Bytes.{before, shared}
 use Rattle.image.specs.Entry.{Message}
 use Rattle.image.specs.Table.{Row}

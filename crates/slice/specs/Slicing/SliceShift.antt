@@ -1,5 +1,6 @@
 -- Slices do not depend on what both pivots and the cut begin with: code may slice by what is left after the lifted bytes.
-use Rattle.image.specs.Prelude.{ℕ, suc, ◌≡◌, refl, ap, ap₂, ◌∙◌, List, [], ◌∷◌, ◌++◌, append_assoc, Bool, true, false, not, cond, length, drop}
+use Rattle.std.specs.Prelude.{ℕ, suc, ◌≡◌, refl, List, [], ◌∷◌, ◌++◌, Bool, true, false, not, cond, length, drop}
+use Rattle.image.specs.Prelude.{ap, ap₂, ◌∙◌, append_assoc}
 use Rattle.image.specs.Bytes.{before, shared}
 use Rattle.image.specs.Table.{Row, under_prefix}
 use Rattle.image.specs.Image.{Tree, unread, leaf, interior, Forest, end, tree}

@@ -1,5 +1,6 @@
 -- What code does: at each node the pivots and the cut are what is left after the lifted bytes, so that the node itself lifts nothing.
-use Rattle.image.specs.Prelude.{ℕ, suc, ◌≡◌, refl, sym, ap, ◌∙◌, List, [], ◌∷◌, ◌++◌, Bool, true, length, drop}
+use Rattle.std.specs.Prelude.{ℕ, suc, ◌≡◌, refl, List, [], ◌∷◌, ◌++◌, Bool, true, length, drop}
+use Rattle.image.specs.Prelude.{sym, ap, ◌∙◌}
 use Rattle.image.specs.Bytes.{before, shared}
 use Rattle.image.specs.Table.{Row, under_prefix}
 use Rattle.image.specs.Image.{Tree, leaf, interior, Forest, end, tree}

@@ -1,5 +1,6 @@
 -- Slices written into an image: page by page into free nodes, the deepest first. What is read back is the slice.
-use Rattle.image.specs.Prelude.{ℕ, zero, suc, ◌+◌, ◌*◌, ◌≤◌, ◌≡◌, refl, sym, ap, subst, ◌∙◌, List, [], ◌∷◌, ◌++◌, Bool, true, false, ◌&&◌, cond, false≢true, Option, none, some, arith, length, replicate, length-replicate, leb, eqb, leb-true, eqb-true, eq-eqb, cases}
+use Rattle.std.specs.Prelude.{ℕ, zero, suc, ◌+◌, ◌*◌, ◌≤◌, ◌≡◌, refl, List, [], ◌∷◌, ◌++◌, Bool, true, false, ◌&&◌, cond, length, replicate, leb, eqb}
+use Rattle.image.specs.Prelude.{sym, ap, subst, ◌∙◌, false≢true, Option, none, some, arith, length-replicate, leb-true, eqb-true, eq-eqb, cases}
 use Rattle.image.specs.Bytes.{before, shared}
 use Rattle.image.specs.Entry.{Message, pivot_limit}
 use Rattle.image.specs.Table.{Row, under_prefix}

@@ -1,5 +1,6 @@
 -- The swing: a settled tree under other bytes is sound there, when its paths are well formed there. And the middle of a move as one tree.
-use Rattle.image.specs.Prelude.{ℕ, ◌≡◌, refl, sym, ap, ◌∙◌, List, [], ◌∷◌, ◌++◌, append_assoc, Bool, true, ◌&&◌, false≢true, drop-append_seam}
+use Rattle.std.specs.Prelude.{ℕ, ◌≡◌, refl, List, [], ◌∷◌, ◌++◌, Bool, true, ◌&&◌}
+use Rattle.image.specs.Prelude.{sym, ap, ◌∙◌, append_assoc, false≢true, drop-append_seam}
 use Rattle.image.specs.Bytes.{before, shared}
 use Rattle.image.specs.Path.{owns, well_formed}
 use Rattle.image.specs.Table.{Row, every_key, rising, under_prefix, renamed}

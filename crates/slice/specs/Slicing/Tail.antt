@@ -1,5 +1,6 @@
 -- The middle of a move, one node a level, as one tree; and the empty trees that close the gap.
-use Rattle.image.specs.Prelude.{ℕ, zero, suc, ◌-◌, ◌≤◌, ◌≡◌, refl, sym, ◌∙◌, List, [], append-nil, true, false, arith, length, le-leb}
+use Rattle.std.specs.Prelude.{ℕ, zero, suc, ◌-◌, ◌≤◌, ◌≡◌, refl, List, [], true, false, length}
+use Rattle.image.specs.Prelude.{sym, ◌∙◌, append-nil, arith, le-leb}
 use Rattle.image.specs.Bytes.{before, begins, shared}
 use Rattle.image.specs.Entry.{pivot_limit}
 use Rattle.image.specs.Table.{every_key, rising, under_prefix}

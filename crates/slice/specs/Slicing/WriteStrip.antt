@@ -1,5 +1,6 @@
 -- The written slices, too, do not depend on the lifted bytes: the contracts of the code that slices are equations with these.
-use Rattle.image.specs.Prelude.{ℕ, zero, suc, ◌≡◌, refl, sym, ap, ap₂, ◌∙◌, List, [], ◌++◌, append_assoc, Bool, true, false, cond, length, drop}
+use Rattle.std.specs.Prelude.{ℕ, zero, suc, ◌≡◌, refl, List, [], ◌++◌, Bool, true, false, cond, length, drop}
+use Rattle.image.specs.Prelude.{sym, ap, ap₂, ◌∙◌, append_assoc}
 use Rattle.image.specs.Bytes.{before, shared}
 use Rattle.image.specs.Table.{Row}
 use Rattle.image.specs.Image.{Tree, unread, leaf, interior, Forest, end, tree}

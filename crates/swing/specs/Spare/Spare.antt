@@ -1,6 +1,7 @@
 -- The numbers of the nodes that are not marked; with the marks of the nodes in use they are the free nodes, rising.
 -- Relies on Marks of tree_check's Whole (what the marks say) and on slice/Moving's free list.
-use Rattle.image.specs.Prelude.{ℕ, zero, suc, ◌+◌, ◌-◌, ◌≤◌, ◌<◌, ◌≡◌, refl, sym, ap, ◌∙◌, List, [], ◌∷◌, Bool, true, false, cond, arith, length, get_or, eqb, eq-eqb, ne_eqb}
+use Rattle.std.specs.Prelude.{ℕ, zero, suc, ◌+◌, ◌-◌, ◌≤◌, ◌<◌, ◌≡◌, refl, List, [], ◌∷◌, Bool, true, false, cond, length, get_or, eqb}
+use Rattle.image.specs.Prelude.{sym, ap, ◌∙◌, arith, eq-eqb, ne_eqb}
 use Rattle.image.specs.Image.{nodes_of, tree_of}
 use Rattle.image.specs.Sound.{is_in, numbers}
 use Rattle.packed.specs.Build.HandedLaws.{listed-length}

@@ -1,6 +1,7 @@
 -- The steps of free_list: what is listed so far, with what is still to be looked at, is the whole list.
 -- Relies on packed's laws of numbers put one after another.
-use Rattle.image.specs.Prelude.{ℕ, zero, suc, ◌+◌, ◌*◌, ◌-◌, ◌≤◌, ◌<◌, ◌≡◌, refl, sym, ap, ap₂, ◌∙◌, List, [], ◌∷◌, ◌++◌, append_assoc, append-nil, Bool, true, false, arith, length, get_or, eqb, eq-eqb, ne_eqb}
+use Rattle.std.specs.Prelude.{ℕ, zero, suc, ◌+◌, ◌*◌, ◌-◌, ◌≤◌, ◌<◌, ◌≡◌, refl, List, [], ◌∷◌, ◌++◌, Bool, true, false, length, get_or, eqb}
+use Rattle.image.specs.Prelude.{sym, ap, ap₂, ◌∙◌, append_assoc, append-nil, arith, eq-eqb, ne_eqb}
 use Rattle.image.specs.Bytes.{u16, u16_bytes}
 use Rattle.octets.specs.Put.{put, u16-there}
 use Rattle.packed.specs.Build.Handed.{listed}

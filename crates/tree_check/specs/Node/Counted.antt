@@ -1,5 +1,6 @@
 -- The answer of a check that also counts, and the count as the list of entries goes by.
-use Rattle.image.specs.Prelude.{ℕ, suc, ◌+◌, ◌≡◌, sym, ap, ◌∙◌, List, [], ◌∷◌, Bool, true, false, arith, length}
+use Rattle.std.specs.Prelude.{ℕ, suc, ◌+◌, ◌≡◌, List, [], ◌∷◌, Bool, true, false, length}
+use Rattle.image.specs.Prelude.{sym, ap, ◌∙◌, arith}
 use Rattle.image.specs.Entry as defined
 use Rattle.octets.specs.Cap.{cap}
 use Rattle.tree_check.specs.declared.node_check.Counted.{Counted}

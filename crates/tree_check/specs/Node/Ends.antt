@@ -1,6 +1,7 @@
 -- A leaf whose keys rise is sound if its first key is not below the low pivot and its last key below the high one: the walk that asks no more.
 -- Relies on Leaf, whose walk asks of every key whether the leaf owns it, and on the order of strings.
-use Rattle.image.specs.Prelude.{ℕ, ◌-◌, ◌<◌, ◌≤◌, ◌≡◌, refl, sym, ap, ◌∙◌, List, [], ◌∷◌, Bool, true, false, ◌&&◌, not, and-true, Option, none, some, arith, length, le-leb, lt-leb}
+use Rattle.std.specs.Prelude.{ℕ, ◌-◌, ◌<◌, ◌≤◌, ◌≡◌, refl, List, [], ◌∷◌, Bool, true, false, ◌&&◌, not, length}
+use Rattle.image.specs.Prelude.{sym, ap, ◌∙◌, and-true, Option, none, some, arith, le-leb, lt-leb}
 use Rattle.image.specs.Bytes.{before}
 use Rattle.image.specs.Path.{owns, value_fits, value_limit}
 use Rattle.image.specs.Entry as defined

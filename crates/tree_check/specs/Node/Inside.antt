@@ -1,5 +1,6 @@
 -- A sound interior node, entry by entry: what check_children does.
-use Rattle.image.specs.Prelude.{ℕ, ◌≡◌, refl, ap, subst, ◌∙◌, List, [], ◌∷◌, Bool, true, false, ◌&&◌, cond, and-false, Option, none, some, arith, drop}
+use Rattle.std.specs.Prelude.{ℕ, ◌≡◌, refl, List, [], ◌∷◌, Bool, true, false, ◌&&◌, cond, drop}
+use Rattle.image.specs.Prelude.{ap, subst, ◌∙◌, and-false, Option, none, some, arith}
 use Rattle.image.specs.Bytes.{before, shared}
 use Rattle.image.specs.Path.{owns}
 use Rattle.image.specs.Entry as defined

@@ -1,5 +1,6 @@
 -- A sound leaf, pair by pair.
-use Rattle.image.specs.Prelude.{ℕ, ◌≡◌, refl, sym, ap, ap₂, subst, ◌∙◌, List, [], ◌∷◌, Bool, true, false, ◌&&◌, and-true, and-false, Option, none, some, arith}
+use Rattle.std.specs.Prelude.{ℕ, ◌≡◌, refl, List, [], ◌∷◌, Bool, true, false, ◌&&◌}
+use Rattle.image.specs.Prelude.{sym, ap, ap₂, subst, ◌∙◌, and-true, and-false, Option, none, some, arith}
 use Rattle.image.specs.Bytes.{before}
 use Rattle.image.specs.Path.{owns, value_fits}
 use Rattle.image.specs.Entry as defined
@@ -10,7 +11,6 @@ use Rattle.path.specs.Shape as machine
 use Rattle.laws.specs.Reading.SoundHere as inside
 use Rattle.node.specs.Places.{part, Within}
 use Rattle.node.specs.declared.Place.{Place}
-use Rattle.node.specs.declared.Entry.{Entry}
 use Rattle.tree_check.specs.declared.node_check.Prev.{Prev}
 
 unfoldable pub prev_in : List ℕ → Prev → Option (List ℕ)

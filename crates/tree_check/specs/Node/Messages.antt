@@ -1,5 +1,6 @@
 -- A sound message, and the walk over those that a node holds.
-use Rattle.image.specs.Prelude.{ℕ, ◌-◌, ◌<◌, ◌≤◌, ◌≡◌, refl, sym, ap, subst, ◌∙◌, List, [], ◌∷◌, Bool, true, false, ◌&&◌, and-true, and-false, Option, none, some, arith, length, le-leb, lt-leb}
+use Rattle.std.specs.Prelude.{ℕ, ◌-◌, ◌<◌, ◌≤◌, ◌≡◌, refl, List, [], ◌∷◌, Bool, true, false, ◌&&◌, length}
+use Rattle.image.specs.Prelude.{sym, ap, subst, ◌∙◌, and-true, and-false, Option, none, some, arith, le-leb, lt-leb}
 use Rattle.image.specs.Bytes.{same}
 use Rattle.image.specs.Path.{owns, value_fits, value_limit}
 use Rattle.image.specs.Entry as defined

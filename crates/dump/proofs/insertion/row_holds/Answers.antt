@@ -1,0 +1,13 @@
+-- `row_holds` meets its contract: the part that it compares is the row's path.
+-- Relies on specs/Insertion/Slots.
+use Rattle.std.proofs.Common.{ap}
+use Rattle.image.specs.Bytes.{same}
+use Rattle.dump.specs.Insertion.Slots.{row-key}
+use Rattle.image.specs.Prelude.{arith, ap, ◌∙◌}
+use Rattle.dump.proofs.insertion.row_holds.Goals as goal
+
+pub slice_bounds-equal-end : goal.slice_bounds-equal-end
+slice_bounds-equal-end c = let f = c.requires.0.paths c.args.i c.requires.1 in let r = c.requires.0.room in omega arith
+
+pub returns : goal.returns
+returns c = c.equal.ensures ∙ ap (λ k. same k c.args.path.now) (row-key c.args.area.now c.args.i c.wide.result c.wide.ensures.0)

@@ -1,0 +1,17 @@
+-- `count_without` meets its contract, by whether the path is there. Relies on specs/Known.
+use Rattle.image.specs.Prelude.{arith}
+use Rattle.edit.specs.Room.{few-nodes}
+use Rattle.edit.specs.Known.{one-there, without-it, without-it-already}
+use Rattle.edit.proofs.count_without.Goals as goal
+
+pub read_live-live-requires : goal.read_live-live-requires
+read_live-live-requires c = omega (arith, (few-nodes _ c.requires.0).1)
+
+pub overflow_sub-result : goal.overflow_sub-result
+overflow_sub-result c = let l = one-there _ c.requires.0 c.requires.1 _ c.read_live-live.ensures.0 _ _ c.value_of-found.ensures _ c.in_default.is in omega arith
+
+pub returns-in_default : goal.returns-in_default
+returns-in_default c = without-it _ c.requires.0 c.requires.1 _ c.read_live-live.ensures.0 _ _ c.value_of-found.ensures _ c.in_default.is
+
+pub returns : goal.returns
+returns c = without-it-already _ c.requires.0 c.requires.1 _ c.read_live-live.ensures.0 _ _ c.value_of-found.ensures c.in-Nothing.is

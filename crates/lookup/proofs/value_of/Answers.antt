@@ -1,0 +1,17 @@
+-- `value_of` meets its contract. Relies on specs/Root and specs/Look.
+use Rattle.lookup.specs.Root.{long-enough, root-usable, root-answers}
+use Rattle.lookup.specs.Look.{finds-as}
+use Rattle.image.specs.Prelude.{arith}
+use Rattle.lookup.proofs.value_of.Goals as goal
+
+pub read_root-root-requires : goal.read_root-root-requires
+read_root-root-requires c = let l = long-enough c.args.store.now c.requires in omega arith
+
+pub read_levels-levels-requires : goal.read_levels-levels-requires
+read_levels-levels-requires c = let l = long-enough c.args.store.now c.requires in omega arith
+
+pub lookup-requires : goal.lookup-requires
+lookup-requires c = root-usable c.args.store.now _ _ c.requires c.read_root-root.ensures.0 c.read_levels-levels.ensures.0
+
+pub returns : goal.returns
+returns c = finds-as _ _ _ _ (root-answers c.args.store.now _ _ _ c.requires c.read_root-root.ensures.0 c.read_levels-levels.ensures.0) c.lookup.ensures

@@ -1,0 +1,14 @@
+-- `emit_others` meets its contract: the entries left, written behind what is written, are all.
+-- Relies on specs/EmitSteps, on push's WriteSteps and on the contract of node's cursor.
+use Rattle.std.specs.Prelude.{length, ◌≡◌, true, ◌-◌, ◌+◌}
+use Rattle.laws.specs.Encode.{bytes_of_all}
+use Rattle.octets.specs.Put.{put}
+use Rattle.node.specs.Entries.{listed}
+use Rattle.merge.specs.Laws.Joined.{without_child, small_entries}
+use Rattle.merge.proofs.emit.emit_others.Given as goal
+
+abbrev pub invariant-loop-c : goal.invariant-loop-c
+invariant-loop-c l = (l.c.end ≡ l.stop) × (length l.page ≡ length l.initial.page) × (l.to + length (bytes_of_all (without_child l.gone (listed l.s l.c.at l.c.end))) ≡ l.at + length (bytes_of_all (without_child l.gone (listed l.s 8 l.stop)))) × (put l.page l.to (bytes_of_all (without_child l.gone (listed l.s l.c.at l.c.end))) ≡ put l.initial.page l.at (bytes_of_all (without_child l.gone (listed l.s 8 l.stop)))) × (small_entries (listed l.s l.c.at l.c.end) ≡ true)
+
+abbrev pub decreases-loop-c : goal.decreases-loop-c
+decreases-loop-c l = l.stop - l.c.at

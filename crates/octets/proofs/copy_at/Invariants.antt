@@ -1,0 +1,10 @@
+-- `copy_at` meets its contract: its loop keeps an invariant. Relies on specs/Put.
+use Rattle.std.specs.Prelude.{◌-◌, ◌≤◌, ◌≡◌, length, take}
+use Rattle.octets.specs.Put.{put}
+use Rattle.octets.proofs.copy_at.Given as goal
+
+abbrev pub invariant-loop-i : goal.invariant-loop-i
+invariant-loop-i l = (l.i ≤ length l.src) × (length l.page ≡ length l.initial.page) × (l.page ≡ put l.initial.page l.at (take l.i l.src))
+
+abbrev pub decreases-loop-i : goal.decreases-loop-i
+decreases-loop-i l = length l.src - l.i

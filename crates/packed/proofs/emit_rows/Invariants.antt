@@ -1,0 +1,12 @@
+-- `emit_rows` meets its contract.
+-- Relies on specs/Pages/Emitting and on how the bytes of pairs follow each other (specs/Build/PairLaws).
+use Rattle.std.specs.Prelude.{◌-◌}
+use Rattle.packed.specs.Pages.Emitting.{Emits}
+use Rattle.packed.specs.Build.Pairs.{pair_bytes}
+use Rattle.packed.proofs.emit_rows.Given as goal
+
+abbrev pub invariant-loop-t : goal.invariant-loop-t
+invariant-loop-t l = Emits (λ n i. pair_bytes l.k n l.area i) l.initial.page l.from l.to l.at l.page l.t l.p
+
+abbrev pub decreases-loop-t : goal.decreases-loop-t
+decreases-loop-t l = l.to - l.t

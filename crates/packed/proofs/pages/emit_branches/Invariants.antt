@@ -1,0 +1,11 @@
+-- The loop over the rows of an interior node. Relies on specs/Pages/Emitting and on how the bytes of children follow each other.
+use Rattle.std.specs.Prelude.{◌-◌}
+use Rattle.packed.specs.Pages.Emitting.{Emits}
+use Rattle.packed.specs.Pages.Entries.{branch_bytes}
+use Rattle.packed.proofs.pages.emit_branches.Given as goal
+
+abbrev pub invariant-loop-t : goal.invariant-loop-t
+invariant-loop-t l = Emits (λ n i. branch_bytes l.k n l.area i) l.initial.page l.from l.to l.at l.page l.t l.p
+
+abbrev pub decreases-loop-t : goal.decreases-loop-t
+decreases-loop-t l = l.to - l.t

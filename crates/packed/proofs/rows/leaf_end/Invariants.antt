@@ -1,0 +1,10 @@
+-- `leaf_end` meets its contract: its loop keeps an invariant. Relies on specs/Form/Chunk and specs/Rows/Area.
+use Rattle.std.specs.Prelude.{◌-◌, ◌≤◌, ◌≡◌}
+use Rattle.packed.specs.Rows.Area.{leaf_end}
+use Rattle.packed.proofs.rows.leaf_end.Given as goal
+
+abbrev pub invariant-loop-i : goal.invariant-loop-i
+invariant-loop-i l = (l.i ≤ l.m) × (l.sum ≤ 2000) × (leaf_end l.m l.area l.from l.used ≡ leaf_end l.m l.area l.i l.sum)
+
+abbrev pub decreases-loop-i : goal.decreases-loop-i
+decreases-loop-i l = l.m - l.i

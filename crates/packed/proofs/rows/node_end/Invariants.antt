@@ -1,0 +1,10 @@
+-- `node_end` meets its contract: its loop keeps an invariant. Relies on specs/Form/Chunk and specs/Rows/Branches.
+use Rattle.std.specs.Prelude.{◌-◌, ◌≤◌, ◌≡◌}
+use Rattle.packed.specs.Rows.Branches.{node_end}
+use Rattle.packed.proofs.rows.node_end.Given as goal
+
+abbrev pub invariant-loop-i : goal.invariant-loop-i
+invariant-loop-i l = (l.from ≤ l.i) × (l.i ≤ l.m) × (l.sum ≤ 1016) × (node_end l.m l.area l.from l.used ≡ node_end l.m l.area l.i l.sum)
+
+abbrev pub decreases-loop-i : goal.decreases-loop-i
+decreases-loop-i l = l.m - l.i

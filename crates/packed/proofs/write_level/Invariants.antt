@@ -1,0 +1,11 @@
+-- `write_level` meets its contract.
+-- Relies on specs/Build/LevelSteps.
+use Rattle.packed.specs.Build.LevelSteps.{NodeTurns}
+use Rattle.std.specs.Prelude.{◌-◌}
+use Rattle.packed.proofs.write_level.Given as goal
+
+abbrev pub invariant-loop-i : goal.invariant-loop-i
+invariant-loop-i l = NodeTurns l.level l.m l.numbers l.from l.initial.area l.area l.initial.store l.store l.i l.made
+
+abbrev pub decreases-loop-i : goal.decreases-loop-i
+decreases-loop-i l = l.m - l.i

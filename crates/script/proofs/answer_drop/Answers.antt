@@ -1,0 +1,6 @@
+-- `script::answer_drop` meets its contract: the call's contract, as the text of a line (specs/Steps). Assumes nothing.
+use Rattle.script.specs.Steps.{drop-answered}
+use Rattle.script.proofs.answer_drop.Goals as goal
+
+pub returns : goal.returns
+returns c = drop-answered _ _ c.requires.0 _ _ _ c.read_path-n.ensures _ c.requires.1 _ _ _ _ _ _ c.put_outcome.ensures c.drop-outcome.ensures

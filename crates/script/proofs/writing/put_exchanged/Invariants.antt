@@ -1,0 +1,10 @@
+-- `script::writing::put_exchanged` meets its contract: the loop has put the first i bytes (specs/Writing). Assumes nothing.
+use Rattle.std.specs.Prelude.{length, take, ◌+◌, ◌-◌, ◌≤◌, ◌≡◌, ◌++◌}
+use Rattle.image.specs.Program.{exchanged}
+use Rattle.script.proofs.writing.put_exchanged.Given as goal
+
+abbrev pub invariant-loop-i : goal.invariant-loop-i
+invariant-loop-i l = (l.i ≤ length l.s) × (length l.out ≡ length l.initial.out) × (take (l.at + l.i) l.out ≡ take l.at l.initial.out ++ exchanged l.from l.to (take l.i l.s))
+
+abbrev pub decreases-loop-i : goal.decreases-loop-i
+decreases-loop-i l = length l.s - l.i

@@ -1,0 +1,6 @@
+-- `splicelog_flush` meets its contract. Relies on specs/Words.
+use Rattle.splicelog.specs.Words.{number-meets}
+use Rattle.splicelog.proofs.splicelog_flush.Goals as goal
+
+pub returns : goal.returns
+returns c = number-meets _ _ _ _ _ _ c.flush.ensures c.outcome_number.ensures.0

@@ -1,0 +1,6 @@
+-- `splicelog_get` meets its contract: one law of specs/ for each way out.
+use Rattle.splicelog.specs.Words.{word-meets}
+use Rattle.splicelog.proofs.splicelog_get.Goals as goal
+
+pub returns : goal.returns
+returns c = word-meets _ _ _ _ _ c.get.ensures.meets c.found_word.ensures

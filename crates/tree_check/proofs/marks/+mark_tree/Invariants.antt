@@ -1,0 +1,16 @@
+-- `mark_tree` meets its contract. The level falls from a node to its children. The loop over a node's entries: what is marked, with what the
+-- entries that are left would mark, is the tree. Relies on specs/MarkSteps.
+use Rattle.tree_check.specs.MarkSteps.{Left}
+use Rattle.node.specs.Entries.{listed}
+use Rattle.image.specs.Image.{tree_at}
+use Rattle.std.specs.Prelude.{length, ◌-◌, ◌≤◌}
+use Rattle.tree_check.proofs.marks.+mark_tree.Given as goal
+
+abbrev pub decreases-mark_tree : goal.decreases-mark_tree
+decreases-mark_tree l = l.level
+
+abbrev pub invariant-loop-e : goal.invariant-loop-e
+invariant-loop-e l = (l.c.end ≤ length l.store) × Left l.store (l.level - 1) l.num (tree_at l.level l.store l.num) l.initial.seen (listed l.store l.c.at l.c.end) l.seen l.quiet
+
+abbrev pub decreases-loop-e : goal.decreases-loop-e
+decreases-loop-e l = l.c.end - l.c.at

@@ -1,0 +1,9 @@
+-- The loop of `write_text` comes to the end of the text.
+use Rattle.std.proofs.Common.{◌≤◌, ◌-◌, length}
+use Rattle.console.proofs.write_text.Given as goal
+
+abbrev pub invariant-loop-at : goal.invariant-loop-at
+invariant-loop-at g l = l.at ≤ length l.text
+
+abbrev pub decreases-loop-at : goal.decreases-loop-at
+decreases-loop-at g l = length l.text - l.at

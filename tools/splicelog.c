@@ -2,7 +2,8 @@
  *
  * splicelog: runs the proved program of crates/console, which has no exit status, and says by its own how that went. Where a file is named, it
  * opens the old image and the new one, hands both over by descriptor, and puts the new one in the place of the old one in one step.
- * Relies on Linux and on the program: PROGRAM, or the one that the environment's SPLICELOG_PROGRAM names.
+ * Relies on Linux with /proc, since the program opens the descriptors by their names in /dev/fd, and on the program: PROGRAM, or the one that the
+ * environment's SPLICELOG_PROGRAM names.
  */
 #define _GNU_SOURCE
 #include "splicelog.h"
@@ -36,6 +37,7 @@ struct image {
     char new_leaf[PATH_MAX + sizeof ".new"];
     int old_file;        /* -1 where there is none */
     int new_file;
+    mode_t mode;         /* the new file's, when it is saved */
 };
 
 static const char usage[] = "usage: splicelog [IMAGE] < LINES\n"
@@ -213,6 +215,20 @@ static int copy_mode(const struct image *image) {
     return fchmod(image->new_file, old.st_mode & 07777);
 }
 
+/* Lets the program open the new file for writing, which it does by its name in /dev/fd, while it runs: some modes deny that to the owner. */
+static int allow_writing(struct image *image) {
+    struct stat made;
+    if (fstat(image->new_file, &made) != 0)
+        return -1;
+    image->mode = made.st_mode & 07777;
+    return image->mode & S_IWUSR ? 0 : fchmod(image->new_file, image->mode | S_IWUSR);
+}
+
+/* Takes that back. */
+static int restore_mode(const struct image *image) {
+    return image->mode & S_IWUSR ? 0 : fchmod(image->new_file, image->mode);
+}
+
 /* Removes the new file, if its name still leads to it. */
 static int discard_new(const struct image *image) {
     if (leads_to(image->folder, image->new_leaf, image->new_file))
@@ -229,7 +245,7 @@ static int make_new(struct image *image) {
     if (image->new_file < 0)
         return errno == EEXIST ? tell_taken(image) : fail(image, "%s.new cannot be made: %s", image->path, strerror(errno));
     (void)fcntl(image->new_file, F_OFD_SETLK, &lock);
-    if (copy_mode(image) != 0)
+    if (copy_mode(image) != 0 || allow_writing(image) != 0)
         fail(image, "the mode of %s.new: %s", image->path, strerror(errno));
     else if (!is_old_in_place(image))
         fail(image, "another run is on this image");
@@ -245,6 +261,8 @@ static int save(const struct image *image) {
         return fail(image, "%s.new is not the file that this run made", image->path);
     if (!is_old_in_place(image))
         return fail(image, "another program has put a file in its place, which stays");
+    if (restore_mode(image) != 0)
+        return fail(image, "the mode of %s.new: %s", image->path, strerror(errno));
     if (renameat(image->folder, image->new_leaf, image->folder, image->leaf) != 0)
         return fail(image, "%s", strerror(errno));
     /* The name goes to the disk too. Where the folder cannot be read or synchronised, it goes there later; the image is in place. */

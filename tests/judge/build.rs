@@ -1,4 +1,4 @@
-// Links the static library that `rt staticlib splicelog` writes.
+// Links the static library that tests/library makes.
 fn main() {
     let root = std::env::var("CARGO_MANIFEST_DIR").expect("cargo sets it");
     let library = format!("{root}/../../target/staticlib");

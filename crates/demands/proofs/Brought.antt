@@ -1,6 +1,6 @@
 -- Demand 2, nothing else can be read, and nothing is lost: after any list of calls on a sound image a path has just the value that the
 -- history brought to it. The first image had it, a put gave it or a move brought it, and no call touched it since. So get and next.
--- Relies on the contracts of the calls (image), on Touches and, that lookup finds what the table has, on laws.
+-- Relies on the contracts of the calls (image), on Touches and, that lookup finds what the table has, on laws. The laws of specs/Brought that rest on a definition which a must-fail edit changes.
 use Rattle.std.specs.Prelude.{ℕ, ◌≡◌, refl, List, [], ◌∷◌, ◌++◌, Bool, true, false, ◌||◌, not, length, drop, eqb}
 use Rattle.image.specs.Prelude.{sym, ap, subst, ◌∙◌, false≢true, some, Option·some-injective, Option·none-ne-some, eqb-true}
 use Rattle.image.specs.Bytes.{same, begins}

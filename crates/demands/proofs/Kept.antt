@@ -1,5 +1,6 @@
 -- Demand 2, what is put is kept: after an accepted put of p, v, on any bytes whatever, and any calls that do not touch p, a get of p with
 -- room for a value gives v; and so with what a first image holds. Relies on the contracts of the calls (image), on Touches and on laws/Formed.
+-- The laws of specs/Kept that rest on a definition which a must-fail edit changes.
 use Rattle.std.specs.Prelude.{ℕ, ◌≤◌, ◌≡◌, refl, List, ◌++◌, true, length, drop}
 use Rattle.image.specs.Prelude.{sym, ◌∙◌, some}
 use Rattle.image.specs.Path.{value_limit}

@@ -1,5 +1,6 @@
 -- Which paths a call touches, told from the call and its answer alone, and that a path that is not touched keeps what it has.
 -- For the theorems of demand 2 about single paths. Relies on the laws of the changes of a table (laws, FindMoved).
+-- The laws of specs/Touches that rest on a definition which a must-fail edit changes.
 use Rattle.std.specs.Prelude.{ℕ, zero, suc, ◌≡◌, refl, List, true, false, ◌&&◌, not, eqb}
 use Rattle.image.specs.Prelude.{ap, ◌∙◌}
 use Rattle.image.specs.Table.{Row, find}

@@ -1,5 +1,6 @@
 -- The input byte by byte: what each byte prints and leaves, and the theorem that a whole input prints what the definition of the program says
 -- and leaves the store that it says. Relies on: Answered (what a line says).
+-- The laws of specs/Input that rest on a definition which a must-fail edit changes.
 use Rattle.std.specs.Prelude.{ℕ, zero, suc, ◌+◌, ◌-◌, ◌<◌, ◌≤◌, ◌≡◌, refl, List, [], ◌∷◌, ◌++◌, Bool, true, false, cond, ◌⊎◌, length, take, drop, set, ltb, eqb}
 use Rattle.image.specs.Prelude.{sym, ap, ap₂, ◌∙◌, append-nil, inl, inr, arith, length-append, take_all, take-append-le, take_at, length-take-le, eq-eqb, ne_eqb, ltb-true, ltb-false}
 use Rattle.image.specs.Table.{Row}

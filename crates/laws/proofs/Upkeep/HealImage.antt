@@ -1,4 +1,5 @@
 -- One step of heal on an image: the left one of a pair is written with the entries of both, the node above it without the right one's entry.
+-- The laws of specs/Upkeep/HealImage that rest on a definition which a must-fail edit changes.
 use Rattle.std.specs.Prelude.{ℕ, zero, suc, ◌-◌, ◌≤◌, ◌≡◌, List, ◌++◌, true, false, ◌||◌, length, eqb}
 use Rattle.image.specs.Prelude.{sym, ap, ◌∙◌, append_assoc, false≢true, some, arith, ne_eqb}
 use Rattle.image.specs.Bytes.{shared}

@@ -1,4 +1,5 @@
 -- A step of heal as two nodes written: what the code does is the tree with the pair merged, sound, and the same table.
+-- The laws of specs/Upkeep/HealWrite that rest on a definition which a must-fail edit changes.
 use Rattle.std.specs.Prelude.{ℕ, zero, suc, ◌+◌, ◌*◌, ◌≤◌, ◌<◌, ◌≡◌, List, ◌++◌, true, false, length, eqb}
 use Rattle.image.specs.Prelude.{◌∙◌, false≢true, some, arith, eqb-false, ne_eqb}
 use Rattle.image.specs.Bytes.{shared}

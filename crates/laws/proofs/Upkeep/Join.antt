@@ -1,4 +1,5 @@
 -- Two neighbouring children merged where they would fit in one node; and that again and again until none do.
+-- The laws of specs/Upkeep/Join that rest on a definition which a must-fail edit changes.
 use Rattle.std.specs.Prelude.{ℕ, zero, suc, ◌≡◌, refl, List, [], ◌∷◌, ◌++◌, Bool, true, eqb}
 use Rattle.image.specs.Prelude.{ap, ◌∙◌, append_assoc, eq-eqb, cases}
 use Rattle.image.specs.Bytes.{before}

@@ -1,4 +1,5 @@
 -- Two neighbouring nodes as one: the left one's number, the entries rewritten for the joined range.
+-- The laws of specs/Upkeep/Merge that rest on a definition which a must-fail edit changes.
 use Rattle.std.specs.Prelude.{ℕ, ◌≡◌, List, true}
 use Rattle.image.specs.Bytes.{before}
 use Rattle.image.specs.Image.{Tree}

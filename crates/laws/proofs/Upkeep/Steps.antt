@@ -1,5 +1,6 @@
 -- Heal as a loop of code takes it: a step merges the first pair that fits; after each step the tree is the first one with node n's children
 -- mended so often; and where the search finds no pair, heal's rule holds.
+-- The laws of specs/Upkeep/Steps that rest on a definition which a must-fail edit changes.
 use Rattle.std.specs.Prelude.{ℕ, ◌-◌, ◌≡◌, List, Bool, true}
 use Rattle.image.specs.Prelude.{sym, ap, ◌∙◌, some}
 use Rattle.image.specs.Bytes.{shared}

@@ -1,5 +1,5 @@
 -- Merging again and again until no two neighbouring children would fit in one node.
--- The laws of specs/Upkeep/Loop that rest on a definition which a must-fail edit changes.
+-- These laws rest on a definition which a must-fail edit changes; the others of the name are in specs.
 use Rattle.std.specs.Prelude.{ℕ, zero, suc, ◌≡◌, List, Bool, true}
 use Rattle.image.specs.Image.{Forest}
 use Rattle.image.specs.Sound.{sound_forest, is_in}

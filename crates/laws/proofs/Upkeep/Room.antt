@@ -1,5 +1,5 @@
 -- Sizes of a node whose children are merged; and a flush taken child by child instead of message by message, as code does it.
--- The laws of specs/Upkeep/Room that rest on a definition which a must-fail edit changes.
+-- These laws rest on a definition which a must-fail edit changes; the others of the name are in specs.
 use Rattle.std.specs.Prelude.{ℕ, zero, suc, ◌≤◌, ◌≡◌, List, ◌∷◌, ◌++◌, true}
 use Rattle.image.specs.Prelude.{arith, cases}
 use Rattle.image.specs.Entry.{Message, child}

@@ -1,5 +1,5 @@
 -- The rules of heal and flush on images, as a loop of code meets them.
--- The laws of specs/Upkeep/Rules that rest on a definition which a must-fail edit changes.
+-- These laws rest on a definition which a must-fail edit changes; the others of the name are in specs.
 use Rattle.std.specs.Prelude.{ℕ, ◌≡◌, List, true}
 use Rattle.image.specs.Prelude.{sym, ap, ap₂, ◌∙◌, some, Option·some-injective}
 use Rattle.image.specs.Image.{Tree, node_bytes, header, header_of, tree_of}

@@ -1,6 +1,6 @@
 // The program's files, `console [DONE [NEW [OLD]]]`: how many words there are says which of the descriptors 3, 4 and 5 tools/splicelog.c has
 // opened; the words are their names for messages. The program goes on with the image on OLD and leaves its own on NEW, and a byte on DONE
-// says that all is done. Nothing is made or removed here. Relies on: make, soundness.
+// says that all is done. Nothing is made or removed here. Relies on: make, soundness and std.
 ghost use Rattle.std.specs.Prelude.{◌≡◌, zero, true, length};
 ghost use Rattle.image.specs.Sound.{sound};
 

@@ -1,5 +1,5 @@
 // The program: reads lines from standard input and prints what each says, on a store just made or on the one that files begins with. Script
-// has the work; here are the reads, the writes and the loop. Relies on: script, files.
+// has the work; here are the reads, the writes and the loop. Relies on: script, files and std.
 
 #![tactic(auto)]
 

@@ -1,23 +1,18 @@
 -- Demand 2, nothing else can be read, and nothing is lost: after any list of calls on a sound image a path has just the value that the
 -- history brought to it. The first image had it, a put gave it or a move brought it, and no call touched it since. So get and next.
 -- Relies on the contracts of the calls (image), on Touches and, that lookup finds what the table has, on laws.
-use Rattle.std.specs.Prelude.{ℕ, ◌≤◌, ◌≡◌, refl, List, [], ◌∷◌, ◌++◌, Bool, true, false, ◌||◌, not, length, drop, eqb}
-use Rattle.image.specs.Prelude.{sym, ap, subst, ◌∙◌, false≢true, Option, none, some, Option·some-injective, Option·none-ne-some, eqb-true}
+use Rattle.std.specs.Prelude.{ℕ, ◌≤◌, ◌≡◌, refl, List, [], ◌∷◌, ◌++◌, Bool, true, false, length, drop}
+use Rattle.image.specs.Prelude.{sym, ap, ◌∙◌, false≢true, Option, none, some, Option·some-injective, Option·none-ne-some}
 use Rattle.image.specs.Bytes.{same, before, begins}
 use Rattle.image.specs.Path.{below, value_limit}
-use Rattle.image.specs.Table.{Row, find, is_some, moved, least_after, leads, rising}
-use Rattle.image.specs.Sound.{sound, table_of, value_in}
-use Rattle.image.specs.Calls.{Call, acts, keeps, asks, Act, put, drops, clear, move, settle, tidy, get, next, Answer, filled, number_of, found_by, act_table, table_after, table_at}
-use Rattle.image.specs.Contract.{first_no_on, Besides, Meets, Run, stop, call}
-use Rattle.octets.specs.Order.{and_left, and_right, not-true, same-eq, begins-split}
-use Rattle.laws.specs.Tables.{find-with, find-without, find-cleared}
-use Rattle.laws.specs.LookupTable.{means-table}
+use Rattle.image.specs.Table.{Row, find, is_some, least_after, leads, rising}
+use Rattle.image.specs.Sound.{table_of}
+use Rattle.image.specs.Calls.{Call, acts, asks, put, move, get, Answer, filled, number_of, table_at}
+use Rattle.image.specs.Contract.{Meets, Run, stop, call}
+use Rattle.octets.specs.Order.{and_right}
 use Rattle.laws.specs.Next.{Fits, least-yes, least-far, least-early, later-fits, nil-none, first-present}
-use Rattle.laws.specs.Follow.{table-rises}
-use Rattle.laws.specs.Formed.{found-formed}
-use Rattle.demands.specs.Consequences.{number_is, all_yes, was-whole, was_sound, run_sound, Answered, query-answered, get-reads}
-use Rattle.demands.specs.FindMoved.{find-moved-to, find-moved-from}
-use Rattle.demands.specs.Touches.{act_touches, call_touches, touches, call-spares}
+use Rattle.demands.specs.Consequences.{number_is}
+use Rattle.demands.specs.Touches.{touches}
 
 -- a call that was done, with its answer
 pub data Done : Type 0 where
@@ -44,7 +39,7 @@ pub data Brought (first : List Row) : List Done → List ℕ → List ℕ → Ty
       → Brought first earlier (from ++ rest) v → Brought first (done (acts (move from to) work) a ∷ earlier) (to ++ rest) v
 
 -- the table after a history
-unfoldable table_by : List Done → List Row → List Row
+unfoldable pub table_by : List Done → List Row → List Row
 table_by [] first = first
 table_by (done c a ∷ earlier) first = table_at (number_of a) c (table_by earlier first)
 
@@ -53,7 +48,7 @@ unfolding table_by
 table-append [] earlier first = refl
 table-append (done c a ∷ later) earlier first = ap (table_at (number_of a) c) (table-append later earlier first)
 
-run-table : {s s' : List ℕ} {cs : List Call} {given : List Answer} → Run s cs given s' → table_of s' ≡ table_by (history cs given) (table_of s)
+pub run-table : {s s' : List ℕ} {cs : List Call} {given : List Answer} → Run s cs given s' → table_of s' ≡ table_by (history cs given) (table_of s)
 unfolding history table_by
 run-table stop = refl
 run-table {s} (call {c = c} {a = a} {cs = cs} {later = given} m r) =
@@ -61,100 +56,12 @@ run-table {s} (call {c = c} {a = a} {cs = cs} {later = given} m r) =
     ∙ ap (table_by (history cs given)) (m.table ∙ rw (← number_is m) refl)
     ∙ sym (table-append (history cs given) (done c a ∷ []) (table_of s))
 
--- what was brought is in the table
-table-has : {first : List Row} {h : List Done} {p v : List ℕ} → Brought first h p v → find p (table_by h first) ≡ some v
-unfolding table_by touches table_at table_after act_table
-table-has (held e) = e
-table-has {first} {p = p} (stays {earlier} {c} {a} b e) = call-spares (number_of a) c p (table_by earlier first) e ∙ table-has b
-table-has {first} {p = p} {v = v} (was_put {earlier} e) = rw e (find-with p v (table_by earlier first))
-table-has {first} (was_moved {earlier} {from = from} {to = to} rest e d b) = rw e (find-moved-to from to rest (table_by earlier first) ∙ table-has b)
-
--- What is in the table after the last call was brought, where all that is in the table t before it was: by that call where it touches the
--- path, else by the calls before it.
-module _ (first : List Row) (earlier : List Done) (t : List Row) (was-brought : (p v : List ℕ) → find p t ≡ some v → Brought first earlier p v) where
-  move-brought : (from to work p v : List ℕ) (a : Answer) → number_of a ≡ 0 → same from to ≡ false → begins from p || begins to p ≡ true
-      → find p (moved from to t) ≡ some v → Brought first (done (acts (move from to) work) a ∷ earlier) p v
-  move-brought from to work p v a e d b h = by_place (begins to p) refl
-    where
-      rest : List ℕ
-      rest = drop (length to) p
-
-      left_over : (x y : Bool) → x || y ≡ true → y ≡ false → x ≡ true
-      left_over true y o n = refl
-      left_over false y o n = sym n ∙ o
-
-      by_place : (x : Bool) → begins to p ≡ x → Brought first (done (acts (move from to) work) a ∷ earlier) p v
-      by_place true c =
-          let split : to ++ rest ≡ p = begins-split to p c in
-          let there : find (from ++ rest) t ≡ some v = sym (find-moved-to from to rest t) ∙ ap (λ q. find q (moved from to t)) split ∙ h in
-          subst (λ q. Brought first (done (acts (move from to) work) a ∷ earlier) q v) split (was_moved rest e d (was-brought (from ++ rest) v there))
-      by_place false c = absurd (Option·none-ne-some v (sym (find-moved-from from to p t c (left_over (begins from p) (begins to p) b c)) ∙ h))
-
-  act-brought : (x : Act) (work p v : List ℕ) (a : Answer) → number_of a ≡ 0 → act_touches x p ≡ true → find p (act_table x t) ≡ some v
-      → Brought first (done (acts x work) a ∷ earlier) p v
-  unfolding act_touches act_table below
-  act-brought (put q u) work p v a e b h =
-      let same-path : p ≡ q = same-eq p q b in
-      let same-value : u ≡ v = Option·some-injective u v (sym (find-with q u t) ∙ rw same-path at h) in
-      rw (same-path, ← same-value) (was_put e)
-  act-brought (drops q) work p v a e b h = absurd (Option·none-ne-some v (sym (find-without q t) ∙ rw (same-eq p q b) at h))
-  act-brought (clear q) work p v a e b h = absurd (Option·none-ne-some v (sym (find-cleared p q t b) ∙ h))
-  act-brought (move from to) work p v a e b h =
-      move-brought from to work p v a e (not-true (same from to) (and_left _ _ b)) (and_right (not (same from to)) _ b) h
-  act-brought settle work p v a e b h = absurd (false≢true b)
-  act-brought tidy work p v a e b h = absurd (false≢true b)
-
-  accepted-brought : (c : Call) (p v : List ℕ) (a : Answer) → number_of a ≡ 0 → call_touches c p ≡ true → find p (table_after c t) ≡ some v
-      → Brought first (done c a ∷ earlier) p v
-  unfolding call_touches table_after
-  accepted-brought (acts x work) p v a e b h = act-brought x work p v a e b h
-  accepted-brought (keeps u i work) p v a e b h = absurd (false≢true b)
-  accepted-brought (asks q buffer) p v a e b h = absurd (false≢true b)
-
-  call-brought : (c : Call) (a : Answer) (p v : List ℕ) (x : Bool) → touches c a p ≡ x → find p (table_at (number_of a) c t) ≡ some v
-      → Brought first (done c a ∷ earlier) p v
-  unfolding touches table_at
-  call-brought c a p v false b h = stays (was-brought p v (sym (call-spares (number_of a) c p t b) ∙ h)) b
-  call-brought c a p v true b h =
-      let e : number_of a ≡ 0 = eqb-true (number_of a) 0 (and_left _ _ b) in
-      accepted-brought c p v a e (and_right (eqb (number_of a) 0) _ b) (rw e at h)
-
-table-brought : (first : List Row) (h : List Done) (p v : List ℕ) → find p (table_by h first) ≡ some v → Brought first h p v
-unfolding table_by
-table-brought first [] p v e = held e
-table-brought first (done c a ∷ earlier) p v e =
-    call-brought first earlier (table_by earlier first) (table-brought first earlier) c a p v (touches c a p) refl e
-
--- Whatever value a path has after a list of calls was brought to it by that history.
-pub read-was-brought : {s s' p v : List ℕ} {cs : List Call} {given : List Answer} → sound s ≡ true → Run s cs given s'
-    → value_in s' p ≡ some v → Brought (table_of s) (history cs given) p v
-read-was-brought {s} {s'} {p} {v} {cs} {given} is_sound r e =
-    table-brought (table_of s) (history cs given) p v (ap (find p) (sym (run-table r)) ∙ sym (means-table s' (run_sound r is_sound) p) ∙ e)
-
--- And what was brought to it is there: nothing is lost, and no two values are brought to one path.
-pub brought-is-read : {s s' p v : List ℕ} {cs : List Call} {given : List Answer} → sound s ≡ true → Run s cs given s'
-    → Brought (table_of s) (history cs given) p v → value_in s' p ≡ some v
-brought-is-read {s' = s'} {p = p} is_sound r b = means-table s' (run_sound r is_sound) p ∙ ap (find p) (run-table r) ∙ table-has b
-
 -- An accepted get of p answered len and the buffer out: a value that was brought to p, in front of the rest of the buffer.
 pub record Got (first : List Row) (h : List Done) (p buffer : List ℕ) (len : ℕ) (out : List ℕ) : Type 0 where
   pub value : List ℕ
   pub brought : Brought first h p value
   pub len_is : len ≡ length value
   pub out_is : out ≡ value ++ drop (length value) buffer
-
--- (That the get is accepted says that its store is sound; nothing is asked of the first bytes.)
-pub get-was-brought : {s s' s'' w p buffer out : List ℕ} {cs : List Call} {given : List Answer} {len : ℕ} → Run s cs given s'
-    → Meets s' (asks (get p) buffer) (filled 0 len out) s'' w → Got (table_of s) (history cs given) p buffer len out
-unfolding found_by
-get-was-brought {s} {p = p} {cs = cs} {given = given} r m =
-    let f : Answered _ (get p) _ _ _ = query-answered m in
-    record {
-      value = f.bytes;
-      brought = table-brought (table_of s) (history cs given) p f.bytes (ap (find p) (sym (run-table r)) ∙ f.found);
-      len_is = f.len_is;
-      out_is = f.out_is;
-    }
 
 -- An accepted next, below p and after q, answered len and the buffer out, and left the store s: a path, in front of the rest of the buffer,
 -- to which a value was brought; and a get of that path, with room for a value, then reads this value.
@@ -170,7 +77,7 @@ pub record Listed (first : List Row) (h : List Done) (p q buffer : List ℕ) (le
       → a ≡ filled 0 (length value) (value ++ drop (length value) room)
 
 -- what next finds is there, below p and after q
-least_fits : (p q k : List ℕ) (t : List Row) → rising t ≡ true → least_after p q t ≡ some k → Fits p q t k
+pub least_fits : (p q k : List ℕ) (t : List Row) → rising t ≡ true → least_after p q t ≡ some k → Fits p q t k
 unfolding rising
 least_fits p q k [] up e = absurd (Option·none-ne-some k (sym (nil-none p q) ∙ e))
 least_fits p q k (r ∷ t) up e =
@@ -185,31 +92,7 @@ least_fits p q k (r ∷ t) up e =
     by_row true a false b later = later (sym (least-early p q r t b) ∙ e)
     by_row false a y b later = later (sym (least-far p q r t a) ∙ e)
 
-has_value : (o : Option (List ℕ)) → is_some o ≡ true → (v : List ℕ) × (o ≡ some v)
+pub has_value : (o : Option (List ℕ)) → is_some o ≡ true → (v : List ℕ) × (o ≡ some v)
 unfolding is_some
 has_value none e = absurd (false≢true e)
 has_value (some v) e = (v, refl)
-
-pub next-was-brought : {s s' s'' w p q buffer out : List ℕ} {cs : List Call} {given : List Answer} {len : ℕ} → Run s cs given s'
-    → Meets s' (asks (next p q) buffer) (filled 0 len out) s'' w → Listed (table_of s) (history cs given) p q buffer len out s''
-unfolding found_by number_of Besides below
-next-was-brought {s} {s'} {s''} {p = p} {q = q} {buffer = buffer} {cs = cs} {given = given} r m =
-    let f : Answered s' (next p q) buffer _ _ = query-answered m in
-    let e : first_no_on s' (asks (next p q) buffer) ≡ 0 = all_yes m refl in
-    let kept : s'' ≡ s' = m.also e in
-    let is_sound : sound s' ≡ true = was_sound s' (asks (next p q) buffer) e in
-    let fits : Fits p q (table_of s') f.bytes = least_fits p q f.bytes (table_of s') (table-rises s' is_sound) f.found in
-    let there : (v : List ℕ) × (find f.bytes (table_of s') ≡ some v) = has_value (find f.bytes (table_of s')) fits.present in
-    record {
-      path = f.bytes;
-      value = there.0;
-      brought = table-brought (table_of s) (history cs given) f.bytes there.0 (ap (find f.bytes) (sym (run-table r)) ∙ there.1);
-      under = fits.under;
-      greater = fits.after;
-      len_is = f.len_is;
-      out_is = f.out_is;
-      reads =
-          λ g room.
-          get-reads there.0 g (rw kept (was-whole s' (asks (next p q) buffer) e)) (rw kept is_sound)
-          (found-formed s' is_sound f.bytes there.0 there.1) room (ap (λ x. find f.bytes (table_of x)) kept ∙ there.1);
-    }

@@ -1,16 +1,13 @@
 -- Which paths a call touches, told from the call and its answer alone, and that a path that is not touched keeps what it has.
 -- For the theorems of demand 2 about single paths. Relies on the laws of the changes of a table (laws, FindMoved).
-use Rattle.std.specs.Prelude.{ℕ, zero, suc, ◌≡◌, refl, List, [], ◌∷◌, ◌++◌, Bool, true, false, ◌&&◌, ◌||◌, not, length, drop, eqb}
+use Rattle.std.specs.Prelude.{ℕ, ◌≡◌, refl, List, [], ◌∷◌, ◌++◌, Bool, true, false, ◌&&◌, ◌||◌, not, length, drop, eqb}
 use Rattle.image.specs.Prelude.{sym, ap, ◌∙◌}
 use Rattle.image.specs.Bytes.{same, begins}
 use Rattle.image.specs.Path.{below}
 use Rattle.image.specs.Table.{Row, find, moved}
-use Rattle.image.specs.Sound.{table_of}
-use Rattle.image.specs.Calls.{Call, acts, keeps, asks, Act, put, drops, clear, move, settle, tidy, Answer, number_of, act_table, table_after, table_at}
-use Rattle.image.specs.Contract.{first_no_on, Meets, Run, stop, call}
-use Rattle.octets.specs.Order.{and_left, and_right, not-true, same-eq, begins-split, or-none-right as or_right, or-none-left as or_left}
+use Rattle.image.specs.Calls.{Call, acts, keeps, asks, Act, put, drops, clear, move, settle, tidy, Answer, number_of, act_table}
+use Rattle.octets.specs.Order.{same-eq, begins-split, or-none-right as or_right, or-none-left as or_left}
 use Rattle.laws.specs.Tables.{find-with-other, find-without-other, find-spared}
-use Rattle.demands.specs.Consequences.{number_is}
 use Rattle.demands.specs.FindMoved.{find-moved-to, find-moved-other}
 
 -- An accepted put or drop touches the path that it names; a clear every path below its own; a move every path below from and every path
@@ -57,7 +54,7 @@ move-spares from to p t e = by-ends (same from to) refl
         let aside : begins from p || begins to p ≡ false = rw f at e in
         find-moved-other from to p t (or_right (begins from p) (begins to p) aside) (or_left (begins from p) (begins to p) aside)
 
-act-spares : (x : Act) (p : List ℕ) (t : List Row) → act_touches x p ≡ false → find p (act_table x t) ≡ find p t
+pub act-spares : (x : Act) (p : List ℕ) (t : List Row) → act_touches x p ≡ false → find p (act_table x t) ≡ find p t
 unfolding act_touches act_table below
 act-spares (put q v) p t e = find-with-other p q v t e
 act-spares (drops q) p t e = find-without-other p q t e
@@ -65,28 +62,3 @@ act-spares (clear q) p t e = find-spared p q t e
 act-spares (move from to) p t e = move-spares from to p t e
 act-spares settle p t e = refl
 act-spares tidy p t e = refl
-
-after-spares : (c : Call) (p : List ℕ) (t : List Row) → call_touches c p ≡ false → find p (table_after c t) ≡ find p t
-unfolding call_touches table_after
-after-spares (acts x work) p t e = act-spares x p t e
-after-spares (keeps u i work) p t e = refl
-after-spares (asks q buffer) p t e = refl
-
--- a call that answers the number k
-pub call-spares : (k : ℕ) (c : Call) (p : List ℕ) (t : List Row) → eqb k 0 && call_touches c p ≡ false → find p (table_at k c t) ≡ find p t
-unfolding table_at
-call-spares zero c p t e = after-spares c p t e
-call-spares (suc k) c p t e = refl
-
-pub meets-spares : {s s' w' : List ℕ} {c : Call} {a : Answer} (p : List ℕ) → Meets s c a s' w' → touches c a p ≡ false
-    → find p (table_of s') ≡ find p (table_of s)
-unfolding touches
-meets-spares {s} {c = c} {a = a} p m e =
-    ap (find p) m.table ∙ call-spares (first_no_on s c) c p (table_of s) (rw (← number_is m) e)
-
-pub run-spares : {s s' : List ℕ} {cs : List Call} {given : List Answer} (p : List ℕ) → Run s cs given s' → untouched p cs given ≡ true
-    → find p (table_of s') ≡ find p (table_of s)
-unfolding untouched
-run-spares p stop e = refl
-run-spares p (call {c = c} {a = a} m r) e =
-    run-spares p r (and_right (not (touches c a p)) _ e) ∙ meets-spares p m (not-true (touches c a p) (and_left _ _ e))

@@ -161,12 +161,12 @@ same_step p b = go (short-or-long p)
         let n : length (take 256 p) ≡ 256 = length-take-le 256 p (omega arith) in
         take_at (take 256 p) (b ∷ []) 256 n ∙ sym (take-append-le 256 p (b ∷ []) (omega arith))
 
-same-last : (p : List ℕ) (t : List Row) → last_text (take 256 p) t ≡ said_on program_nodes (last_line p) t
+pub same-last : (p : List ℕ) (t : List Row) → last_text (take 256 p) t ≡ said_on program_nodes (last_line p) t
 unfolding last_text said_on last_line
 same-last [] t = refl
 same-last (a ∷ p) t = same-said (a ∷ p) t ∙ sym (append-nil (said program_nodes (a ∷ p) t))
 
-same_left : (p : List ℕ) (t : List Row) → last_table (take 256 p) t ≡ after_lines program_nodes (last_line p) t
+pub same_left : (p : List ℕ) (t : List Row) → last_table (take 256 p) t ≡ after_lines program_nodes (last_line p) t
 unfolding last_table after_lines last_line
 same_left [] t = refl
 same_left (a ∷ p) t = same_after (a ∷ p) t
@@ -179,11 +179,11 @@ pub data Prints : List ℕ → List ℕ → List ℕ → List ℕ → List ℕ �
       → Prints s₁ (take len' line') input printed s' → Prints s (take len line) (byte ∷ input) (take count out' ++ printed) s'
 
 -- what lines print and leave
-record Ended (s : List ℕ) (lines : List (List ℕ)) (printed s' : List ℕ) : Type 0 where
-  text : printed ≡ said_on program_nodes lines (table_of s)
-  table : table_of s' ≡ after_lines program_nodes lines (table_of s)
-  still_sound : sound s' ≡ true
-  size : length s' ≡ length s
+pub record Ended (s : List ℕ) (lines : List (List ℕ)) (printed s' : List ℕ) : Type 0 where
+  pub text : printed ≡ said_on program_nodes lines (table_of s)
+  pub table : table_of s' ≡ after_lines program_nodes lines (table_of s)
+  pub still_sound : sound s' ≡ true
+  pub size : length s' ≡ length s
 
 -- one byte before an end
 module _ {s line line' out' s₁ printed s' : List ℕ} {len byte len' count : ℕ} (f : Feeds s line len byte len' count line' out' s₁)
@@ -219,24 +219,12 @@ module _ {s line line' out' s₁ printed s' : List ℕ} {len byte len' count : �
         size = l.size ∙ f.size;
       }
 
-  byte-before : Ended s (cond (eqb byte line_feed) (q ∷ lines_from [] input) (lines_from (q ++ (byte ∷ [])) input)) (take count out' ++ printed) s'
+  pub byte-before : Ended s (cond (eqb byte line_feed) (q ∷ lines_from [] input) (lines_from (q ++ (byte ∷ [])) input)) (take count out' ++ printed) s'
   byte-before = go (eqb byte line_feed) refl
     where
       go : (x : Bool) → eqb byte line_feed ≡ x → Ended s (cond (eqb byte line_feed) (q ∷ lines_from [] input) (lines_from (q ++ (byte ∷ [])) input)) (take count out' ++ printed) s'
       go true z = rw z (line-ends z)
       go false z = rw z (line-grows z)
-
--- a run in which the line has begun with the bytes q, of which 256 are kept
-lines_end : {s p input printed s' : List ℕ} → Prints s p input printed s' → (q : List ℕ) → p ≡ take 256 q → Ended s (lines_from q input) printed s'
-unfolding lines_from
-lines_end (ends {s} f) q e =
-    record {
-      text = f.text ∙ ap (λ p. last_text p (table_of s)) e ∙ same-last q (table_of s);
-      table = f.table ∙ ap (λ p. last_table p (table_of s)) e ∙ same_left q (table_of s);
-      still_sound = f.still_sound;
-      size = f.size;
-    }
-lines_end (more {input = input} f r) q e = byte-before f q input e (λ p d. lines_end r p d)
 
 -- The outcome of a run from any store that feed and finish take, which is any sound one of 64 nodes: what it prints follows from the table at
 -- the start and the input, and so does the table at the end, which a sound store of the same size means.
@@ -245,17 +233,6 @@ pub record Printed (s input printed s' : List ℕ) : Type 0 where
   pub table : table_of s' ≡ table_from (table_of s) input
   pub still_sound : sound s' ≡ true
   pub size : length s' ≡ length s
-
-pub program-prints : {s input printed s' : List ℕ} → Prints s [] input printed s' → Printed s input printed s'
-unfolding printed_from table_from lines_of
-program-prints r =
-    let l = lines_end r [] refl in
-    record { text = l.text; table = l.table; still_sound = l.still_sound; size = l.size }
-
--- Document 01's program is the case of a store just made.
-pub made-prints : {s input printed s' : List ℕ} → Made s → Prints s [] input printed s' → printed ≡ printed_for input
-unfolding printed_for
-made-prints {input = input} m r = (program-prints r).text ∙ ap (λ t. printed_from t input) m.empty
 
 -- what make leaves of the program's store
 pub made-sound : (s : List ℕ) (k : ℕ) (s' : List ℕ) → MakeMeets s k s' → length s ≡ 65536 → sound s' ≡ true

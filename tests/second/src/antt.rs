@@ -9,16 +9,13 @@ use crate::upkept::{Change, CHANGES};
 /// Put before all blocks.
 const HEADER: &str = "\
 -- Images and what they are, printed by the second program: tests/samples writes this file anew. Do not edit.
-use Prim.Native.Nat.{ℕ, _*_}
-use mathlib.Core.List.{List, [], _∷_, _++_}
-use mathlib.Core.Bool.{true, false}
-use lib.ListN.{replicate}
-use Rattle·samples·specs.specs.Verdict.{Verdict, Change, Kept, node, row}
+use Rattle.std.specs.Prelude.{ℕ, ◌*◌, List, [], ◌∷◌, ◌++◌, true, false, replicate}
+use Rattle.samples.specs.Verdict.{Verdict, Change, Kept, node, row}
 ";
 /// One node of an image, up to its last byte that is not zero.
 const NODE_BLOCK: &str = "\
-abbrev pub {name}-{number} : List ℕ
-{name}-{number} = {bytes}
+abbrev pub {name}_{number} : List ℕ
+{name}_{number} = {bytes}
 
 ";
 /// The whole image.
@@ -29,8 +26,8 @@ abbrev pub {name} : List ℕ
 ";
 /// What the image says: used counts node 0, so that used and free make n.
 const VERDICT_BLOCK: &str = "\
-abbrev pub {name}-says : Verdict
-{name}-says = record { sound = {sound}; settled = {settled}; used = {used}; free = {free}; table = {table} }
+abbrev pub {name}_says : Verdict
+{name}_says = record { sound = {sound}; settled = {settled}; used = {used}; free = {free}; table = {table} }
 ";
 /// A change of one image to another by upkeep of a node, what the rules of upkeep say of it, and
 /// how many nodes it changes.
@@ -38,14 +35,14 @@ const CHANGE_BLOCK: &str = "\
 abbrev pub {name} : Change
 {name} = record { node = {node}; before = {before}; after = {after} }
 
-abbrev pub {name}-keeps : Kept
-{name}-keeps = record { noneWaits = {noneWaits}; flushed = {flushed}; healed = {healed}; noneGains = {noneGains} }
+abbrev pub {name}_keeps : Kept
+{name}_keeps = record { none_waits = {none_waits}; flushed = {flushed}; healed = {healed}; none_gains = {none_gains} }
 
-abbrev pub {name}-changes : ℕ
-{name}-changes = {changed}
+abbrev pub {name}_changes : ℕ
+{name}_changes = {changed}
 ";
 const COMMENT: &str = "-- {name}: {shows}\n";
-const NODE_PART: &str = "node {name}-{number}";
+const NODE_PART: &str = "node {name}_{number}";
 const ZEROS_PART: &str = "replicate ({count} * 1024) 0";
 const JOIN: &str = " ++ ";
 const ROW: &str = "row {path} {value}";
@@ -67,10 +64,10 @@ fn change(change: &Change, examples: &[Example]) -> Option<String> {
         ("node", change.node.to_string()),
         ("before", change.before.to_string()),
         ("after", change.after.to_string()),
-        ("noneWaits", kept.none_waits.to_string()),
+        ("none_waits", kept.none_waits.to_string()),
         ("flushed", kept.flushed.to_string()),
         ("healed", kept.healed.to_string()),
-        ("noneGains", kept.none_gains.to_string()),
+        ("none_gains", kept.none_gains.to_string()),
         ("changed", kept.changed.to_string()),
     ];
     let fields: Vec<(&str, &str)> = fields.iter().map(|(k, v)| (*k, &v[..])).collect();

@@ -33,31 +33,31 @@ fn sound_examples() -> Vec<Example> {
     };
     vec![
         example("made", "just made: the root is an empty leaf", made()),
-        example("one-leaf", "a single leaf with pairs", one_leaf()),
+        example("one_leaf", "a single leaf with pairs", one_leaf()),
         example(
-            "two-levels",
+            "two_levels",
             "messages of all kinds wait at the root, a clear of all before the last puts",
             two_levels(),
         ),
         example(
-            "three-levels",
+            "three_levels",
             "messages wait at two levels; clears at, under and above a lifted prefix; \
              an empty leaf, an only child, a pivot of 65 bytes",
             three_levels(),
         ),
         example(
-            "long-pivot",
+            "long_pivot",
             "settled, with pivots longer than a path, as after a move",
             long_pivot(),
         ),
         example(
-            "four-levels",
+            "four_levels",
             "messages at three levels speak of the same paths; a one-child chain; \
              garbage in free nodes",
             four_levels(),
         ),
         example(
-            "long-values",
+            "long_values",
             "values as long as they may be and as they could be before, in a leaf and waiting",
             long_values(),
         ),
@@ -76,14 +76,14 @@ const fn damage(name: &'static str, rule: Rule, from: &'static str) -> Damage {
 }
 
 const DAMAGES: [Damage; 8] = [
-    damage("bad-live-count", Rule::LiveCount, "two-levels"),
-    damage("bad-reached-once", Rule::ReachedOnce, "two-levels"),
-    damage("bad-pair-order", Rule::PairOrder, "one-leaf"),
-    damage("bad-put-owned", Rule::PutOwned, "three-levels"),
-    damage("bad-clear-shape", Rule::ClearShape, "two-levels"),
-    damage("bad-node-zeros", Rule::NodeZeros, "long-pivot"),
-    damage("bad-pair-value", Rule::PairValue, "long-values"),
-    damage("bad-put-value", Rule::PutValue, "long-values"),
+    damage("bad_live_count", Rule::LiveCount, "two_levels"),
+    damage("bad_reached_once", Rule::ReachedOnce, "two_levels"),
+    damage("bad_pair_order", Rule::PairOrder, "one_leaf"),
+    damage("bad_put_owned", Rule::PutOwned, "three_levels"),
+    damage("bad_clear_shape", Rule::ClearShape, "two_levels"),
+    damage("bad_node_zeros", Rule::NodeZeros, "long_pivot"),
+    damage("bad_pair_value", Rule::PairValue, "long_values"),
+    damage("bad_put_value", Rule::PutValue, "long_values"),
 ];
 
 /// Of the damages that these seeds give, the one with the shortest print is taken.

@@ -35,17 +35,17 @@ const fn change(
 
 #[rustfmt::skip]
 pub const CHANGES: [Change; 11] = [
-    change("flush-two-levels", 1, "two-levels", "two-levels-flushed"),
-    change("flush-three-levels", 3, "three-levels", "three-levels-flushed"),
-    change("flush-four-levels", 9, "four-levels", "four-levels-flushed"),
-    change("flush-nothing", 1, "two-levels", "two-levels"),
-    change("flush-raised", 1, "two-levels", "two-levels-raised"),
-    change("flush-lifted", 1, "two-levels", "two-levels-lifted"),
-    change("heal-two-levels", 1, "two-levels", "two-levels-healed"),
-    change("heal-long-pivot", 4, "long-pivot", "long-pivot-healed"),
-    change("heal-nothing-fits", 9, "long-pivot", "long-pivot"),
-    change("heal-nothing", 1, "two-levels", "two-levels"),
-    change("heal-level-between", 1, "two-levels", "two-levels-raised"),
+    change("flush_two_levels", 1, "two_levels", "two_levels_flushed"),
+    change("flush_three_levels", 3, "three_levels", "three_levels_flushed"),
+    change("flush_four_levels", 9, "four_levels", "four_levels_flushed"),
+    change("flush_nothing", 1, "two_levels", "two_levels"),
+    change("flush_raised", 1, "two_levels", "two_levels_raised"),
+    change("flush_lifted", 1, "two_levels", "two_levels_lifted"),
+    change("heal_two_levels", 1, "two_levels", "two_levels_healed"),
+    change("heal_long_pivot", 4, "long_pivot", "long_pivot_healed"),
+    change("heal_nothing_fits", 9, "long_pivot", "long_pivot"),
+    change("heal_nothing", 1, "two_levels", "two_levels"),
+    change("heal_level_between", 1, "two_levels", "two_levels_raised"),
 ];
 
 /// What the rules of upkeep say of a change.
@@ -81,22 +81,22 @@ impl Change {
 /// The examples that the changes lead to.
 pub fn examples(sound: &[Example]) -> Vec<Example> {
     let made = [
-        flushed(sound, "two-levels", "two-levels-flushed", 1),
-        flushed(sound, "three-levels", "three-levels-flushed", 3),
-        flushed(sound, "four-levels", "four-levels-flushed", 9),
-        healed(sound, "two-levels", "two-levels-healed", 1),
-        healed(sound, "long-pivot", "long-pivot-healed", 4),
+        flushed(sound, "two_levels", "two_levels_flushed", 1),
+        flushed(sound, "three_levels", "three_levels_flushed", 3),
+        flushed(sound, "four_levels", "four_levels_flushed", 9),
+        healed(sound, "two_levels", "two_levels_healed", 1),
+        healed(sound, "long_pivot", "long_pivot_healed", 4),
         seeming(
             sound,
-            "two-levels-raised",
-            "two-levels with a new node under the root, which keeps its messages: wrong as a \
+            "two_levels_raised",
+            "two_levels with a new node under the root, which keeps its messages: wrong as a \
              flush and as a heal",
             wrong::level_between,
         ),
         seeming(
             sound,
-            "two-levels-lifted",
-            "two-levels with a new root, which takes the messages: wrong as a flush",
+            "two_levels_lifted",
+            "two_levels with a new root, which takes the messages: wrong as a flush",
             wrong::messages_lifted,
         ),
     ];
@@ -137,7 +137,7 @@ fn seeming(
     shows: &str,
     tree: fn(&Sound) -> Option<Tree>,
 ) -> Option<Example> {
-    let mut image = image(sound, "two-levels")?;
+    let mut image = image(sound, "two_levels")?;
     let before = judge(&image).ok()?;
     let live = before.table.len() as u16;
     tree(&before)?.write(live, &mut image)?;

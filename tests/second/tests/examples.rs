@@ -34,7 +34,7 @@ fn they_mean_what_they_should() {
     let rows = |name: &str| sound(&example(name)).table;
     assert_eq!(rows("made"), table(&[]));
     let two: &[(&str, &[u8])] = &[("a", &[11]), ("r1", &[9]), ("r1/b", &[7, 7]), ("r2/x", &[])];
-    assert_eq!(rows("two-levels"), table(two));
+    assert_eq!(rows("two_levels"), table(two));
     let three: &[(&str, &[u8])] = &[
         ("a", &[1]),
         ("a/x", &[9]),
@@ -47,7 +47,7 @@ fn they_mean_what_they_should() {
         (LONGEST, &[10]),
         ("z", &[5]),
     ];
-    assert_eq!(rows("three-levels"), table(three));
+    assert_eq!(rows("three_levels"), table(three));
     let four: &[(&str, &[u8])] = &[
         ("a", &[4]),
         ("c", &[2]),
@@ -58,7 +58,7 @@ fn they_mean_what_they_should() {
         ("q", &[1]),
         ("q/r", &[3]),
     ];
-    assert_eq!(rows("four-levels"), table(four));
+    assert_eq!(rows("four_levels"), table(four));
     let value = |length: u8| -> Vec<u8> { (1..=length).collect() };
     let long: &[(&str, &[u8])] = &[
         ("a", &value(48)),
@@ -66,12 +66,12 @@ fn they_mean_what_they_should() {
         ("c", &value(48)),
         ("d", &value(32)),
     ];
-    assert_eq!(rows("long-values"), table(long));
+    assert_eq!(rows("long_values"), table(long));
 }
 
 #[test]
 fn they_show_their_corners() {
-    shows("one-leaf", Feature::OneLeaf);
+    shows("one_leaf", Feature::OneLeaf);
     for feature in [
         Feature::ClearAtPrefix,
         Feature::ClearShort,
@@ -79,29 +79,30 @@ fn they_show_their_corners() {
         Feature::EmptyLeaf,
         Feature::FfPivot,
     ] {
-        shows("three-levels", feature);
+        shows("three_levels", feature);
     }
-    shows("long-pivot", Feature::LongPivot);
-    shows("long-pivot", Feature::Settled);
-    shows("four-levels", Feature::WaitingEverywhere);
-    shows("four-levels", Feature::ClearAll);
-    shows("four-levels", Feature::OneChildChain);
-    shows("four-levels", Feature::GarbageInFree);
-    shows("four-levels", Feature::ShuffledNumbers);
-    shows("long-values", Feature::LongValue);
-    shows("long-values", Feature::LongPut);
+    shows("long_pivot", Feature::LongPivot);
+    shows("long_pivot", Feature::Settled);
+    shows("four_levels", Feature::WaitingEverywhere);
+    shows("four_levels", Feature::ClearAll);
+    shows("four_levels", Feature::OneChildChain);
+    shows("four_levels", Feature::GarbageInFree);
+    shows("four_levels", Feature::ShuffledNumbers);
+    shows("long_values", Feature::LongValue);
+    shows("long_values", Feature::LongPut);
 }
 
 #[test]
 fn damaged_ones_break_the_rule_they_name() {
     let damaged: Vec<Example> = all()
         .into_iter()
-        .filter(|e| e.name.starts_with("bad-"))
+        .filter(|e| e.name.starts_with("bad_"))
         .collect();
     assert_eq!(damaged.len(), 8);
     for example in &damaged {
         let rule = judge(&example.image).expect_err("it is unsound");
-        assert_eq!(format!("bad-{}", rule.name()), example.name);
+        let name = rule.name().replace('-', "_");
+        assert_eq!(format!("bad_{name}"), example.name);
     }
 }
 

@@ -180,17 +180,17 @@ fn kept(name: &str) -> Kept {
 #[test]
 fn the_printed_changes_are_what_they_should_be() {
     let right = [
-        "flush-two-levels",
-        "flush-three-levels",
-        "flush-four-levels",
+        "flush_two_levels",
+        "flush_three_levels",
+        "flush_four_levels",
     ];
     assert!(right.iter().all(|name| kept(name).flushed));
-    let right = ["heal-two-levels", "heal-long-pivot", "heal-nothing-fits"];
+    let right = ["heal_two_levels", "heal_long_pivot", "heal_nothing_fits"];
     assert!(right.iter().all(|name| kept(name).healed));
-    let wrong = ["flush-nothing", "flush-raised", "flush-lifted"];
+    let wrong = ["flush_nothing", "flush_raised", "flush_lifted"];
     assert!(wrong.iter().all(|name| !kept(name).flushed));
-    assert!(kept("flush-raised").none_waits && kept("flush-lifted").none_waits);
-    let wrong = ["heal-nothing", "heal-level-between"];
+    assert!(kept("flush_raised").none_waits && kept("flush_lifted").none_waits);
+    let wrong = ["heal_nothing", "heal_level_between"];
     assert!(wrong.iter().all(|name| !kept(name).healed));
-    assert!(kept("heal-long-pivot").changed > 0);
+    assert!(kept("heal_long_pivot").changed > 0);
 }

@@ -51,7 +51,7 @@ fn lifted_bytes_and_odd_bytes_are_set_apart() {
             .map(|e| e.image)
             .unwrap_or_default()
     };
-    let three = example("three-levels");
+    let three = example("three_levels");
     let written = report("three", &Survey::take(&three));
     for line in [
         "clear [r1/]c",
@@ -62,7 +62,7 @@ fn lifted_bytes_and_odd_bytes_are_set_apart() {
     ] {
         assert!(written.contains(line), "{line}\n{written}");
     }
-    let four = example("four-levels");
+    let four = example("four_levels");
     let written = report("four", &Survey::take(&four));
     assert!(written.starts_with("four: sound; 32 nodes: node 0, 13 reachable, 18 free; 4 levels"));
     assert!(

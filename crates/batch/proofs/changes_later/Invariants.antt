@@ -1,4 +1,4 @@
--- `batch::changes_later` ends and stays inside the list: each piece that reads ends behind its place. Relies on specs/Steps.
+-- The loop of `changes_later`: the next piece begins inside the list. The measure is the calls' bytes from there on.
 use Rattle.std.specs.Prelude.{◌-◌, ◌≤◌, length}
 use Rattle.batch.proofs.changes_later.Given as goal
 

@@ -1,4 +1,5 @@
--- `batch::run` meets its contract: the turns so far are a run of calls. Relies on specs/Turns.
+-- The loop of `run`: the turns so far are a run of calls, and the store, the work area and the answers keep their lengths. The measure is the bytes
+-- of the calls left. Relies on specs/Served.
 use Rattle.batch.specs.Served.{SoFar}
 use Rattle.std.specs.Prelude.{◌-◌, ◌≡◌, length}
 use Rattle.batch.proofs.run.Given as goal

@@ -1,5 +1,5 @@
--- `dump_node` and `dump_children` meet their contracts. The level falls from a node to its children. The loop over the children: the rows
--- so far, and those of the child in hand and those after it, make all. Relies on specs/NodeSteps and on live_count/specs/NotedSteps.
+-- The loop of `dump_children`: the rows so far, and those of the child in hand and those after it, make all. The measure of the cycle is the level,
+-- which falls from a node to its children. Relies on specs/Dump and specs/NodeSteps.
 use Rattle.dump.specs.Dump.{BranchesTold}
 use Rattle.dump.specs.NodeSteps.{Descending}
 use Rattle.live_count.specs.Walk.{passing}

@@ -1,4 +1,5 @@
--- The loop over a leaf's pairs: the rows so far and those of the entries to come make all (specs/AppendSteps).
+-- The loop of `append_pairs`: the rows so far and those of the entries to come make all. The measure is the bytes left. Relies on specs/Dump and
+-- specs/AppendSteps.
 use Rattle.live_count.specs.Walk.{passing}
 use Rattle.live_count.specs.Noted.{LeafTold}
 use Rattle.live_count.specs.PathBuffers.{path_in}

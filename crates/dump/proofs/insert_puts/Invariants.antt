@@ -1,4 +1,5 @@
--- The loop over an interior node's entries: the rows so far, with the entries to come, make the same table (specs/InsertSteps).
+-- The loop of `insert_puts`: the rows so far, with the entries to come, make the same table. The measure is the bytes left. Relies on specs/Dump
+-- and specs/InsertSteps.
 use Rattle.live_count.specs.Walk.{passing}
 use Rattle.live_count.specs.PathBuffers.{path_in}
 use Rattle.node.specs.Entries.{listed}

@@ -1,4 +1,4 @@
--- `first_free` meets its contract: its loop keeps an invariant. Relies on specs/Free.
+-- The loop of `first_free`: the number is at least 1. The measure is how many numbers are left.
 use Rattle.std.specs.Prelude.{◌-◌, ◌≤◌}
 use Rattle.edit.proofs.first_free.Given as goal
 

@@ -1,6 +1,5 @@
--- `inclusion::holds_child`, `inclusion::holds_children`, `inclusion::holds_last`, `inclusion::holds_node` meet the contract: one cycle of four
--- functions. The level falls from a node to its children; within a level, children come before last before child before node (specs/Steps,
--- successor/specs/Candidates).
+-- The loop of `holds_children`: the paths of the child in hand and of those after it decide. The measure of the cycle is the level, and within a
+-- level children come before last before child before node. Relies on specs/Held.
 use Rattle.inclusion.specs.Held.{all_held}
 use Rattle.successor.specs.Walk.{run_paths, BranchesReady}
 use Rattle.node.specs.Search.Own.{branch, branches_among}

@@ -1,4 +1,4 @@
--- `inclusion::holds_entries` meets the contract: the paths of the entries that are left decide (specs/Steps).
+-- The loop of `holds_entries`: the paths of the entries that are left decide. The measure is the bytes left. Relies on specs/Held.
 use Rattle.inclusion.specs.Held.{all_held}
 use Rattle.successor.specs.Walk.{paths_of}
 use Rattle.node.specs.Entries.{listed}

@@ -323,11 +323,6 @@ unfolding merged rows apply_all
 merged-rows (leaves i j rs qs) lo mid hi a b e k = leaves-rows i j rs qs lo mid hi a b e k
 merged-rows (inners i j f g) lo mid hi a b e k = inners-rows i j f g lo mid hi a b e k
 
-pub merged-sound : {t u : Tree} → Pair t u → (lo mid hi : List ℕ) → before lo mid ≡ true → before mid hi ≡ true
-    → sound_tree t lo mid ≡ true → sound_tree u mid hi ≡ true → sound_tree (merged t u lo mid hi) lo hi ≡ true
-merged-sound (leaves i j rs qs) lo mid hi a b e k = leaves-sound i j rs qs lo mid hi a b e k
-merged-sound (inners i j f g) lo mid hi a b e k = inners-sound i j f g lo mid hi a b e k
-
 pub merged-tall : {t u : Tree} → Pair t u → (lo mid hi : List ℕ) (level : ℕ) → tall t level ≡ true → tall u level ≡ true
     → tall (merged t u lo mid hi) level ≡ true
 unfolding merged tall

@@ -1,5 +1,5 @@
--- `count_node` and `count_children` meet their contracts. The level falls from a node to its children. The loop over the children: the
--- total so far and the count of the child in hand and those after it make the count of all. Relies on specs/NodeSteps and specs/WalkLaws.
+-- The loop of `count_children`: the total so far and the count of the child in hand and those after it make the count of all. The measure of the
+-- cycle is the level, which falls from a node to its children. Relies on specs/PathBuffers, specs/Live, specs/Walk and specs/Noted.
 use Rattle.std.specs.Prelude.{◌≤◌, ◌-◌, ◌+◌, ◌*◌, length, ◌∷◌, ◌≡◌, true}
 use Rattle.image.specs.Image.{tree_at, nodes_of, forest_of}
 use Rattle.laws.specs.Reading.Relative.{usable_in}

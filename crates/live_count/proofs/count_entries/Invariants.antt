@@ -1,5 +1,5 @@
--- `count_entries` meets its contract: the count so far and that of the entries left make the count of all.
--- Relies on specs/Steps and on the contract of node's cursor.
+-- The loop of `count_entries`: the count so far and that of the entries left make the count of all. The measure is the bytes left. Relies on
+-- specs/PathBuffers and specs/Walk.
 use Rattle.node.specs.Entries.{listed}
 use Rattle.live_count.specs.PathBuffers.{path_in}
 use Rattle.live_count.specs.Walk.{count_among, passing}

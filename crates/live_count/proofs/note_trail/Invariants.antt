@@ -1,4 +1,5 @@
--- `note_trail` meets its contract: the nodes of the trail from the last one up, those passed being noted. Relies on specs/NotedSteps.
+-- The loop of `note_trail`: the nodes of the trail are noted from the last one up. The measure is how many are left. Relies on specs/PathBuffers
+-- and specs/NotedSteps.
 use Rattle.std.specs.Prelude.{◌≤◌, ◌≡◌, length}
 use Rattle.live_count.specs.PathBuffers.{path_in}
 use Rattle.live_count.specs.NotedSteps.{Trailing}

@@ -1,4 +1,4 @@
--- `lookup` meets its contract. The level falls from a node to its child. Relies on specs/Look.
+-- What falls from one call of `lookup` to the next: the level, from a node to its child.
 use Rattle.lookup.proofs.+lookup.Given as goal
 
 abbrev pub decreases-lookup : goal.decreases-lookup

@@ -1,5 +1,5 @@
--- `join_first` meets its contract: the two children in hand are joined if one node holds them, or the search goes on.
--- Relies on specs/JoinSteps and on node's reader of children.
+-- The loop of `join_first`: the store is as it was, and what the two children in hand and those after them say of the join is what all children
+-- say. The measure is the bytes left. Relies on specs/Laws/Joined.
 use Rattle.std.specs.Prelude.{length, ◌∷◌, ◌≡◌, ◌≤◌, ◌-◌}
 use Rattle.node.specs.Search.Own.{branch, branches_among}
 use Rattle.node.specs.Entries.{listed}

@@ -1,5 +1,5 @@
--- `mend_node` meets its contract: after each step the image is the first one with so many pairs merged, and there is a child less.
--- Relies on specs/NodeSteps and on Laws/Mended.
+-- The loop of `mend_node`: the image is the first one with so many pairs merged. The measure is how many children are left. Relies on
+-- specs/Laws/Mended.
 use Rattle.std.specs.Prelude.{length, ◌≡◌}
 use Rattle.merge.specs.Laws.Mended.{Mendable, SoFar, branches_left}
 use Rattle.merge.proofs.mend_node.Given as goal

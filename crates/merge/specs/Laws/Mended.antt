@@ -27,8 +27,9 @@ use Rattle.laws.specs.Upkeep.Healed.{rechilded, rechild, place-altered}
 use Rattle.laws.specs.Upkeep.Steps.{stepped}
 use Rattle.laws.specs.Upkeep.Page.{page_of}
 use Rattle.laws.specs.Upkeep.HealImage.{page_for, pair_at, left_at, merged_at}
-use Rattle.laws.specs.Upkeep.HealWrite.{step_bytes, wrote-length, wrote-zero, wrote-first, wrote-keeps}
-use Rattle.laws.specs.Upkeep.Rules.{first-pair, loop-starts, loop-goes, loop-ends}
+use Rattle.laws.proofs.Upkeep.HealWrite.{step_bytes, wrote-length, wrote-zero, wrote-first, wrote-keeps}
+use Rattle.laws.specs.Upkeep.Rules.{first-pair, loop-starts, loop-goes}
+use Rattle.laws.proofs.Upkeep.Rules.{loop-ends}
 use Rattle.node.specs.Search.Own.{branches_among}
 use Rattle.lookup.specs.Look.{listing}
 use Rattle.push.specs.Laws.High.{high_here}

@@ -19,7 +19,8 @@ use Rattle.laws.specs.Reading.Relative.{branch_high, usable, usable_in}
 use Rattle.laws.specs.Upkeep.Merge.{same_kind, merged, tall_in, Pair, merged-number}
 use Rattle.laws.specs.Upkeep.Size.{message_entries, entries_for}
 use Rattle.laws.specs.Upkeep.Mends.{tall-first, tall-later}
-use Rattle.laws.specs.Upkeep.Join.{joins, join_at, first_pair, join-pair, heads}
+use Rattle.laws.specs.Upkeep.Join.{joins, join_at, first_pair, heads}
+use Rattle.laws.proofs.Upkeep.Join.{join-pair}
 use Rattle.laws.specs.Upkeep.Loop.{one-kind}
 use Rattle.laws.specs.Upkeep.Page.{page_of}
 use Rattle.laws.specs.Upkeep.HealImage.{page_for, pair_at, left_at, merged_at}

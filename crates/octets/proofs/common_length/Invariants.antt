@@ -1,4 +1,5 @@
--- `common_length` meets its contract: its loop keeps an invariant. Relies on specs/Compare.
+-- The loop of `common_length`: the first i bytes are shared, and the rest is counted in what is left of both. The measure is the bytes left. Relies
+-- on image's Bytes.
 use Rattle.std.specs.Prelude.{◌≤◌, ◌-◌, ◌+◌, ◌≡◌, length, drop}
 use Rattle.image.specs.Bytes.{shared}
 use Rattle.octets.proofs.common_length.Given as goal

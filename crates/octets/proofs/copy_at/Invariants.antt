@@ -1,4 +1,4 @@
--- `copy_at` meets its contract: its loop keeps an invariant. Relies on specs/Put.
+-- The loop of `copy_at`: the first i bytes are put. The measure is the bytes left. Relies on specs/Put.
 use Rattle.std.specs.Prelude.{◌-◌, ◌≤◌, ◌≡◌, length, take}
 use Rattle.octets.specs.Put.{put}
 use Rattle.octets.proofs.copy_at.Given as goal

@@ -1,4 +1,4 @@
--- `equal` meets its contract: its loop keeps an invariant. Relies on specs/Compare.
+-- The loop of `equal`: behind the first i bytes the two are the same. The measure is i. Relies on image's Bytes.
 use Rattle.std.specs.Prelude.{◌≤◌, ◌≡◌, length, drop, true}
 use Rattle.image.specs.Bytes.{same}
 use Rattle.octets.proofs.equal.Given as goal

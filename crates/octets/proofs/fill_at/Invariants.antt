@@ -1,4 +1,4 @@
--- `fill_at` meets its contract: its loop keeps an invariant. Relies on specs/Put.
+-- The loop of `fill_at`: the first i bytes are put. The measure is the bytes left. Relies on specs/Put.
 use Rattle.std.specs.Prelude.{◌-◌, ◌≤◌, ◌≡◌, length, replicate}
 use Rattle.octets.specs.Put.{put}
 use Rattle.octets.proofs.fill_at.Given as goal

@@ -1,5 +1,5 @@
--- `clear_area` meets its contract.
--- Relies on specs/Build/RowSteps.
+-- The loop of `clear_area`: the first i bytes of the area are zero, and the others are as they were. The measure is the bytes left. Relies on laws'
+-- Page.
 use Rattle.laws.specs.Page.{zeros_of}
 use Rattle.std.specs.Prelude.{drop, ◌++◌, length, ◌≡◌, ◌-◌, ◌≤◌}
 use Rattle.packed.proofs.clear_area.Given as goal

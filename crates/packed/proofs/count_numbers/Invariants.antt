@@ -1,5 +1,5 @@
--- `count_numbers` meets its contract.
--- Relies on specs/Build/CountSteps.
+-- The loop of `count_numbers`: the first k numbers are listed in their order. The measure is how many are left. Relies on specs/Build/Handed and
+-- specs/Form/Packed.
 use Rattle.packed.specs.Build.Handed.{listed}
 use Rattle.packed.specs.Form.Packed.{numbers_from}
 use Rattle.std.specs.Prelude.{length, ◌≡◌, ◌-◌, ◌/◌, ◌≤◌}

@@ -1,5 +1,5 @@
--- `emit_rows` meets its contract.
--- Relies on specs/Pages/Emitting and on how the bytes of pairs follow each other (specs/Build/PairLaws).
+-- The loop of `emit_rows`: the rows so far are written, each behind the one before it. The measure is how many rows are left. Relies on
+-- specs/Pages/Emitting and specs/Build/Pairs.
 use Rattle.std.specs.Prelude.{◌-◌}
 use Rattle.packed.specs.Pages.Emitting.{Emits}
 use Rattle.packed.specs.Build.Pairs.{pair_bytes}

@@ -1,5 +1,5 @@
--- `write_above` meets its contract.
--- Relies on specs/Build/AboveSteps.
+-- The loop of `write_above`: the levels so far and those still to be written make the tree. The measure is the levels left of eight. Relies on
+-- specs/Build/Passes and specs/Form/Tidy.
 use Rattle.packed.specs.Build.Passes.{tree_above, pages_above, Ascends}
 use Rattle.packed.specs.Form.Tidy.{write_all}
 use Rattle.std.specs.Prelude.{◌-◌}

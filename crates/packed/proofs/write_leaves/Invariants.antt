@@ -1,5 +1,5 @@
--- `write_leaves` meets its contract.
--- Relies on specs/Build/LeafSteps.
+-- The loop of `write_leaves`: the leaves so far and those still to be written make all. The measure is how many rows are left. Relies on
+-- specs/Build/LeafSteps.
 use Rattle.packed.specs.Build.LeafSteps.{LeafTurns}
 use Rattle.std.specs.Prelude.{◌-◌}
 use Rattle.packed.proofs.write_leaves.Given as goal

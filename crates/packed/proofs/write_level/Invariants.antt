@@ -1,5 +1,5 @@
--- `write_level` meets its contract.
--- Relies on specs/Build/LevelSteps.
+-- The loop of `write_level`: the nodes of the level so far and those still to be written make all. The measure is how many rows are left. Relies on
+-- specs/Build/LevelSteps.
 use Rattle.packed.specs.Build.LevelSteps.{NodeTurns}
 use Rattle.std.specs.Prelude.{◌-◌}
 use Rattle.packed.proofs.write_level.Given as goal

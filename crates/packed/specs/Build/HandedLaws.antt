@@ -1,5 +1,5 @@
 -- Laws of the numbers that are handed in: one number and on, how many are left, and that each is in range.
--- Rely on the definitions of Handed and of image (`inRange`), and on octets' Order.
+-- Rely on the definitions of Handed and of image (`in_range`), and on octets' Order.
 use Rattle.std.specs.Prelude.{ℕ, zero, suc, ◌+◌, ◌*◌, ◌-◌, ◌/◌, ◌≤◌, ◌<◌, ◌≡◌, refl, List, ◌∷◌, Bool, true, false, ◌&&◌, length, drop, leb, ltb, eqb, ◌≢◌}
 use Rattle.image.specs.Prelude.{ap, ap₂, ◌∙◌, arith, leb-true, ltb-true, eqb-true, eqb-false}
 use Rattle.image.specs.Bytes.{u16}

@@ -1,4 +1,4 @@
--- `feed` meets its contract: its loop keeps an invariant. Relies on specs/Fed and specs/Shape.
+-- `feed` meets its contract: its loop keeps an invariant. Relies on specs/Fed.
 use Rattle.path.specs.Fed.{feed-step, feed-end}
 use Rattle.std.specs.Prelude.{refl}
 use Rattle.image.specs.Prelude.{arith}

@@ -1,4 +1,5 @@
--- `feed` meets its contract: its loop keeps an invariant. Relies on specs/Fed and specs/Shape.
+-- The loop of `feed`: the bytes left, fed to the shape so far, end where all bytes do. The measure is the bytes left. Relies on specs/Fed and
+-- specs/Shape.
 use Rattle.path.specs.Fed.{shape_is}
 use Rattle.path.specs.Shape as defined
 use Rattle.std.specs.Prelude.{length, drop, ◌≡◌, ◌≤◌, ◌-◌}

@@ -1,4 +1,4 @@
--- `reads-on` meets its contract: what is left reads on as the whole does. Relies on specs/Reads.
+-- `reads_on` meets its contract: what is left reads on as the whole does. Relies on specs/Reads.
 use Rattle.path.specs.Reads.{reads-bad, reads-on, reads_none, reads-many, reads_end}
 use Rattle.std.specs.Prelude.{refl}
 use Rattle.image.specs.Prelude.{arith}

@@ -1,4 +1,4 @@
--- `reads-on` meets its contract: what is left reads on as the whole does. Relies on specs/Reads.
+-- The loop of `reads_on`: what is left reads on as the whole does. The measure is the bytes left. Relies on image's Path.
 use Rattle.image.specs.Path.{reads_on}
 use Rattle.std.specs.Prelude.{◌+◌, ◌-◌, ◌≤◌, ◌≡◌, length, drop}
 use Rattle.path.proofs.reads_on.Given as goal

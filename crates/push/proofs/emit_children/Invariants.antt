@@ -1,5 +1,5 @@
--- `emit_children` meets its contract: the child entries left, written behind what is written, are all child entries.
--- Relies on specs/WriteSteps and on node's reader of children.
+-- The loop of `emit_children`: the child entries left, written behind what is written, are all child entries. The measure is the bytes left. Relies
+-- on specs/Laws/Written.
 use Rattle.std.specs.Prelude.{length, true, ◌≡◌, ◌≤◌, ◌-◌, ◌+◌}
 use Rattle.node.specs.Search.Own.{branches_among}
 use Rattle.node.specs.Entries.{listed}

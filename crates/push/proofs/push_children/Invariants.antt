@@ -1,5 +1,5 @@
--- `push_children` meets its contract: the child in hand takes its messages, and those after it have room still.
--- Relies on specs/ChildSteps and on node's reader of children.
+-- The loop of `push_children`: the child in hand and those after it have room still, and take what all take. The measure is the bytes left. Relies
+-- on specs/Laws/Written.
 use Rattle.std.specs.Prelude.{length, true, ◌∷◌, ◌≡◌, ◌≤◌, ◌-◌}
 use Rattle.node.specs.Search.Own.{branch, branches_among}
 use Rattle.node.specs.Entries.{listed}

@@ -29,7 +29,7 @@ use Rattle.laws.specs.Upkeep.Bridge.{image-tree, image-mends}
 use Rattle.laws.specs.Upkeep.Site.{place-good, Site, site}
 use Rattle.laws.specs.Upkeep.HealWrite.{whole-fits}
 use Rattle.laws.specs.Upkeep.Children.{deep_in, heads-in, deep-in, deep-apart, heads-sub}
-use Rattle.laws.specs.Upkeep.Rules.{flush-rule}
+use Rattle.laws.proofs.Upkeep.Rules.{flush-rule}
 use Rattle.node.specs.Entries.{listed, list_of, all_listed}
 use Rattle.node.specs.Search.Own.{branches_among}
 use Rattle.lookup.specs.Look.{listing, count-is, bytes-is, inside-splits}

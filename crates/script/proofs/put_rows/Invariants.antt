@@ -1,5 +1,5 @@
--- `script::put_rows` meets its contract: before each turn the text so far and the text of the rows ahead are the whole text (specs/Rows). The measure
--- is how many rows are ahead. Assumes nothing.
+-- The loop of `put_rows`: the text so far and the text of the rows ahead are the whole text. The measure is how many rows are ahead. Relies on
+-- specs/Rows.
 use Rattle.std.specs.Prelude.{◌-◌, ◌≤◌, ◌≡◌, length, take, drop}
 use Rattle.script.specs.Rows.{ahead, Walk}
 use Rattle.image.specs.Sound.{table_of}

@@ -1,5 +1,4 @@
--- `slice_left` and `slice_cut` meet their contracts. The level falls from a node to its child. The page of a node is composed from the copy of the
--- node, so that what the child writes does not matter to it. Relies on specs/LeftSteps.
+-- What falls from one call of `slice_left` or `slice_cut` to the next: the level, from a node to its child; within a level the cut comes first.
 use Rattle.std.specs.Prelude.{◌+◌, ◌*◌}
 use Rattle.slice.proofs.+slice_cut_slice_left.Given as goal
 

@@ -1,6 +1,5 @@
--- `successor::seek_child`, `successor::seek_children`, `successor::seek_last`, `successor::seek_node` meet the contract: one cycle of four functions.
--- The level falls from a node to its children; within a level, children come before last before child before node (specs/NodeSteps,
--- specs/Candidates).
+-- The loop of `seek_children`: it keeps the walk over the child in hand and those after it. The measure of the cycle is the level, and within a
+-- level children come before last before child before node. Relies on specs/Walk and specs/Buffer.
 use Rattle.successor.specs.Walk.{walk_in, run_paths, BranchesReady}
 use Rattle.successor.specs.Buffer.{buffer_is}
 use Rattle.path.specs.Fed.{shape_is}

@@ -1,5 +1,5 @@
--- `successor::extend` meets the contract: the loop keeps what the buffer holds with the bytes left after it
--- (specs/BufferSteps). A buffer's array has 64 bytes, which the invariant carries.
+-- The loop of `extend`: it keeps what the buffer holds with the bytes left after it; the buffer's array has 64 bytes. The measure is the bytes
+-- left. Relies on specs/Buffer.
 use Rattle.std.specs.Prelude.{length, drop, ◌≡◌, ◌-◌, ◌≤◌}
 use Rattle.successor.specs.Buffer.{buffer_is, appended}
 use Rattle.successor.proofs.extend.Given as goal

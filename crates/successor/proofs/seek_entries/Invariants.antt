@@ -1,5 +1,5 @@
--- `successor::seek_entries` meets the contract: the loop keeps the walk over the entries that are left
--- (specs/Steps).
+-- The loop of `seek_entries`: it keeps the walk over the entries that are left. The measure is the bytes left. Relies on specs/Walk and
+-- specs/Buffer.
 use Rattle.successor.specs.Walk.{walk_in, paths_of}
 use Rattle.successor.specs.Buffer.{buffer_is}
 use Rattle.path.specs.Fed.{shape_is}

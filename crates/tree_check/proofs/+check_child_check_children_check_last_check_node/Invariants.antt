@@ -1,6 +1,5 @@
--- The cycle of the check: a node, the list of children in it, which calls itself for the rest of the list, the last of them with the messages after
--- it, and one child, which is a node again. The measure: the level first; then for the list what is left of the parent's entries (at most 1,016
--- bytes), 2 for the last child, 1 for a child, 0 for a node. Relies on the exits in specs (NodeSteps, ChildSteps, HeldSteps).
+-- What falls from one call of the cycle to the next: the level first; then for the list of children what is left of the parent's entries (at most
+-- 1,016 bytes), 2 for the last child, 1 for a child, 0 for a node. Relies on specs/Held.
 use Rattle.tree_check.specs.Held.{parent_is}
 use Rattle.std.specs.Prelude.{◌*◌, ◌+◌, ◌-◌}
 use Rattle.tree_check.proofs.+check_child_check_children_check_last_check_node.Given as goal

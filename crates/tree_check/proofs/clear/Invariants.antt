@@ -1,5 +1,4 @@
--- `clear` leaves zeros. The invariant: every byte before i is zero.
--- Relies on RootSteps.
+-- The loop of `clear`: every byte before i is zero. The measure is the bytes left.
 use Rattle.std.specs.Prelude.{ℕ, ◌-◌, ◌≤◌, ◌<◌, ◌≡◌, length, get_or}
 use Rattle.tree_check.proofs.clear.Given as goal
 

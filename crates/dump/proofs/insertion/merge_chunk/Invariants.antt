@@ -1,5 +1,5 @@
--- `merge_chunk` meets its contract: before each turn some of the rows set aside are to come in, and those behind them are done.
--- Relies on specs/Insertion/MergeSteps.
+-- The loop of `merge_chunk`: some of the rows set aside are to come in, and those behind them are done. The measure is how many are left. Relies on
+-- specs/Insertion/MergeSteps.
 use Rattle.std.specs.Prelude.{◌≡◌, length}
 use Rattle.dump.specs.Insertion.MergeSteps.{Aside, Merging}
 use Rattle.dump.proofs.insertion.merge_chunk.Given as goal

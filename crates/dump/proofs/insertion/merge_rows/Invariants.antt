@@ -1,5 +1,5 @@
--- `merge_rows` meets its contract: before each turn the rows up to `done` are merged, and those behind are as they were.
--- Relies on specs/Insertion/MergeSteps.
+-- The loop of `merge_rows`: the rows up to `done` are merged, and those behind are as they were. The measure is the rows behind `done`. Relies on
+-- specs/Insertion/Insertion.
 use Rattle.std.specs.Prelude.{◌-◌, ◌≤◌, ◌≡◌, length}
 use Rattle.dump.specs.Insertion.Insertion.{Merged}
 use Rattle.dump.proofs.insertion.merge_rows.Given as goal

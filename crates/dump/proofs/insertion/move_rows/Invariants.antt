@@ -1,4 +1,4 @@
--- `move_rows` meets its contract: before each turn the rows from `at` on are moved. Relies on specs/Insertion/Moves.
+-- The loop of `move_rows`: the rows from `at` on are moved. The measure is `at`. Relies on specs/Insertion/Moves.
 use Rattle.std.specs.Prelude.{◌≤◌, ◌≡◌, length}
 use Rattle.dump.specs.Insertion.Moves.{moved}
 use Rattle.dump.proofs.insertion.move_rows.Given as goal

@@ -1,5 +1,4 @@
--- `place_of` meets its contract: the path's place stays between `low` and `high`, which close in on it.
--- Relies on specs/Insertion/Ranks.
+-- The loop of `place_of`: the path's place stays between `low` and `high`, whose distance is the measure. Relies on specs/Insertion/Insertion.
 use Rattle.packed.specs.Rows.Area.{rows_of}
 use Rattle.dump.specs.Insertion.Insertion.{rank}
 use Rattle.std.specs.Prelude.{◌+◌, ◌-◌, ◌≤◌}

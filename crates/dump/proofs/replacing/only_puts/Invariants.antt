@@ -1,5 +1,4 @@
--- The loop over a node's entries: none of those passed takes a row away. The measure is the bytes left.
--- Relies on specs/ReplacingSteps and on the contract of the cursor.
+-- The loop of `only_puts`: none of the entries passed takes a row away. The measure is the bytes left. Relies on specs/Replacing.
 use Rattle.node.specs.Entries.{listed}
 use Rattle.lookup.specs.Look.{listing}
 use Rattle.dump.specs.Replacing.{only_puts}

@@ -1,4 +1,5 @@
--- The loop over the root's entries: the rows so far, with the puts to come, make the same table (specs/ReplacingSteps).
+-- The loop of `set_puts`: the rows so far, with the puts to come, make the same table. The measure is the bytes left. Relies on
+-- specs/Insertion/Insertion, specs/Replacing and specs/ReplacingSteps.
 use Rattle.node.specs.Entries.{listed}
 use Rattle.dump.specs.Insertion.Insertion.{laid}
 use Rattle.dump.specs.Replacing.{put_among}

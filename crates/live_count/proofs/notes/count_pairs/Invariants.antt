@@ -1,5 +1,5 @@
--- `count_pairs` meets its contract: the count so far and that of the entries left make the count of all.
--- Relies on specs/Notes/Steps and on node's reader of pairs.
+-- The loop of `count_pairs`: the count so far and that of the entries left make the count of all. The measure is the bytes left. Relies on
+-- specs/Notes/Notes.
 use Rattle.node.specs.Entries.{listed}
 use Rattle.live_count.specs.Notes.Notes.{quiet, count_quiet}
 use Rattle.std.specs.Prelude.{◌+◌, ◌-◌, ◌≤◌, ◌≡◌}

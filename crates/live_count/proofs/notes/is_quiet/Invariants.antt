@@ -1,4 +1,4 @@
--- `is_quiet` meets its contract: from the last note up, those passed are not on the key. Relies on specs/Notes/Apart.
+-- The loop of `is_quiet`: from the last note up, those passed are not on the key. The measure is how many are left. Relies on specs/Notes/Notes.
 use Rattle.std.specs.Prelude.{◌≤◌, ◌≡◌}
 use Rattle.live_count.specs.Notes.Notes.{quiet}
 use Rattle.live_count.proofs.notes.is_quiet.Given as goal

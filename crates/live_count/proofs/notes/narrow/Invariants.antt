@@ -1,4 +1,5 @@
--- `narrow` meets its contract: the notes of the node above one by one. Relies on specs/Notes/Steps.
+-- The loop of `narrow`: what is noted so far is of the first i notes of the node above. The measure is how many of these are left. Relies on
+-- specs/Notes/Steps.
 use Rattle.live_count.specs.Notes.Steps.{Narrowing}
 use Rattle.std.specs.Prelude.{◌-◌, ◌≤◌, ◌≡◌, length}
 use Rattle.live_count.proofs.notes.narrow.Given as goal

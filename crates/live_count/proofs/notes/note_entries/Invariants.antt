@@ -1,5 +1,5 @@
--- `note_entries` meets its contract: what is noted so far, and the entries left, tell what the notes before and all the entries do.
--- Relies on specs/Notes/Steps and on the contract of node's cursor.
+-- The loop of `note_entries`: what is noted so far, and the entries left, tell what the notes before and all the entries do. The measure is the
+-- bytes left. Relies on specs/Notes/Steps.
 use Rattle.std.specs.Prelude.{◌-◌, ◌≡◌, length}
 use Rattle.node.specs.Entries.{listed}
 use Rattle.live_count.specs.Notes.Steps.{Noting}

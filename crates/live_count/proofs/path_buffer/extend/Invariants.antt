@@ -1,5 +1,4 @@
--- `path_buffer::extend` meets its contract: after i bytes the buffer is what a copy of i bytes leaves (`paste`).
--- Relies on specs/PathSteps.
+-- The loop of `extend`: after i bytes the buffer is what a copy of i bytes leaves (`paste`). The measure is the bytes left.
 use Rattle.std.specs.Prelude.{◌≤◌, ◌-◌, ◌+◌, ◌≡◌, length}
 use Rattle.image.specs.Prelude.{paste}
 use Rattle.live_count.proofs.path_buffer.extend.Given as goal

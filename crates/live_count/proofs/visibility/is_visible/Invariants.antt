@@ -1,5 +1,5 @@
--- `is_visible` meets its contract: the nodes of the trail from the last one up, those passed having no message on the path.
--- Relies on specs/Steps.
+-- The loop of `is_visible`: from the last node of the trail up, those passed have no message on the path. The measure is how many nodes are left.
+-- Relies on specs/Walk.
 use Rattle.std.specs.Prelude.{◌≤◌, ◌≡◌}
 use Rattle.live_count.specs.Walk.{passes}
 use Rattle.live_count.proofs.visibility.is_visible.Given as goal

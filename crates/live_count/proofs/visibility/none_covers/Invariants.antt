@@ -1,4 +1,4 @@
--- `none_covers` meets its contract: past the entries one by one, up to the first that covers the rest. Relies on specs/NotedSteps.
+-- The loop of `none_covers`: none of the entries passed covers the rest. The measure is the bytes left. Relies on specs/Notes/Notes and specs/Live.
 use Rattle.node.specs.Entries.{listed}
 use Rattle.node.specs.Search.Latest.{newest_among}
 use Rattle.live_count.specs.Notes.Notes.{none_covers}

@@ -1,5 +1,4 @@
--- `emit_others` meets its contract: the entries left, written behind what is written, are all.
--- Relies on specs/EmitSteps, on push's WriteSteps and on the contract of node's cursor.
+-- The loop of `emit_others`: the entries left, written behind what is written, are all. The measure is the bytes left. Relies on specs/Laws/Joined.
 use Rattle.std.specs.Prelude.{length, ◌≡◌, true, ◌-◌, ◌+◌}
 use Rattle.laws.specs.Encode.{bytes_of_all}
 use Rattle.octets.specs.Put.{put}

@@ -1,5 +1,4 @@
--- `weigh_entries` meets its contract: the sum so far and the entries left weigh what all do.
--- Relies on specs/WeighSteps and on the contract of node's cursor.
+-- The loop of `weigh_entries`: the sum so far and the entries left weigh what all do. The measure is the bytes left. Relies on specs/Laws/Joined.
 use Rattle.std.specs.Prelude.{◌≡◌, ◌≤◌, ◌-◌}
 use Rattle.node.specs.Entries.{listed}
 use Rattle.merge.specs.Laws.Joined.{weights}

@@ -1,5 +1,5 @@
--- `search::count_messages` meets its contract: those counted and those left are all. The measure is the bytes left.
--- Relies on specs/Search/Messages and on the contract of the cursor.
+-- The loop of `count_messages`: those counted and those left are all. The measure is the bytes left. Relies on specs/Entries and
+-- specs/Search/Messages.
 use Rattle.node.specs.Entries.{listed}
 use Rattle.node.specs.Search.Messages.{messages_among}
 use Rattle.std.specs.Prelude.{◌+◌, ◌-◌, ◌≤◌, ◌≡◌}

@@ -1,4 +1,5 @@
--- `find` meets its contract: its loop keeps an invariant. Relies on specs/Search/Pairs, specs/Places and specs/Entries.
+-- The loop of `find`: what is found among the entries left is what is found among all. The measure is the bytes left. Relies on specs/Search/Pairs
+-- and specs/Entries.
 use Rattle.node.specs.Search.Pairs.{find_among}
 use Rattle.node.specs.Entries.{listed}
 use Rattle.std.specs.Prelude.{◌≡◌, ◌-◌}

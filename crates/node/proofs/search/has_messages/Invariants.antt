@@ -1,5 +1,5 @@
--- `search::has_messages` meets its contract: none of the entries passed is a message. The measure is the bytes left.
--- Relies on specs/Search/Messages and on the contract of the cursor.
+-- The loop of `has_messages`: none of the entries passed is a message. The measure is the bytes left. Relies on specs/Entries and
+-- specs/Search/Messages.
 use Rattle.node.specs.Entries.{listed}
 use Rattle.node.specs.Search.Messages.{has_message}
 use Rattle.std.specs.Prelude.{◌-◌, ◌≡◌}

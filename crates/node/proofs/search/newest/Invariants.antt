@@ -1,4 +1,5 @@
--- `newest` meets its contract: its loop keeps an invariant. Relies on specs/Places, specs/Entries and specs/Search/Latest.
+-- The loop of `newest`: the best so far, or a newer one of the entries left, is the newest of all. The measure is the bytes left. Relies on
+-- specs/Entries and specs/Search/Latest.
 use Rattle.std.specs.Prelude.{◌-◌, ◌≡◌, length}
 use Rattle.image.specs.Meaning.{newer}
 use Rattle.node.specs.Entries.{listed}

@@ -1,4 +1,5 @@
--- `owner_after` meets its contract: its loop keeps an invariant. Relies on specs/Search/Own, specs/Places and specs/Entries.
+-- The loop of `owner_after`: the owner among the child in hand and those after it is the owner among all. The measure is the bytes left. Relies on
+-- specs/Search/Own, specs/Places and specs/Entries.
 use Rattle.node.specs.Search.Own.{branch, branches_among, owner_of}
 use Rattle.node.specs.Places.{part, Within}
 use Rattle.node.specs.Entries.{listed}

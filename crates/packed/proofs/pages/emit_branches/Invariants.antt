@@ -1,4 +1,5 @@
--- The loop over the rows of an interior node. Relies on specs/Pages/Emitting and on how the bytes of children follow each other.
+-- The loop of `emit_branches`: the rows so far are written as children, each behind the one before it. The measure is how many rows are left.
+-- Relies on specs/Pages/Emitting and specs/Pages/Entries.
 use Rattle.std.specs.Prelude.{◌-◌}
 use Rattle.packed.specs.Pages.Emitting.{Emits}
 use Rattle.packed.specs.Pages.Entries.{branch_bytes}

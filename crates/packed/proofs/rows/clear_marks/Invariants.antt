@@ -1,4 +1,5 @@
--- `clear_marks` meets its contract: its loop keeps an invariant. Relies on specs/Rows/Puts and specs/Rows/Remark.
+-- The loop of `clear_marks`: the marks left to clear, cleared in the area as it is, make the area with all of them cleared. The measure is how many
+-- are left. Relies on specs/Rows/Remark.
 use Rattle.std.specs.Prelude.{◌-◌, ◌≤◌, ◌≡◌, length}
 use Rattle.packed.specs.Rows.Remark.{clear_marks}
 use Rattle.packed.proofs.rows.clear_marks.Given as goal

@@ -1,4 +1,5 @@
--- `leaf_end` meets its contract: its loop keeps an invariant. Relies on specs/Form/Chunk and specs/Rows/Area.
+-- The loop of `leaf_end`: the end found from row i on, with the sum so far, is the end found from the start. The measure is how many rows are left.
+-- Relies on specs/Rows/Area.
 use Rattle.std.specs.Prelude.{◌-◌, ◌≤◌, ◌≡◌}
 use Rattle.packed.specs.Rows.Area.{leaf_end}
 use Rattle.packed.proofs.rows.leaf_end.Given as goal

@@ -1,4 +1,5 @@
--- `node_end` meets its contract: its loop keeps an invariant. Relies on specs/Form/Chunk and specs/Rows/Branches.
+-- The loop of `node_end`: the end found from row i on, with the sum so far, is the end found from the start. The measure is how many rows are left.
+-- Relies on specs/Rows/Branches.
 use Rattle.std.specs.Prelude.{◌-◌, ◌≤◌, ◌≡◌}
 use Rattle.packed.specs.Rows.Branches.{node_end}
 use Rattle.packed.proofs.rows.node_end.Given as goal

@@ -1,5 +1,5 @@
--- `search_node` and `search_children` meet their contracts. The level falls from a node to its children. The loop over the children: the search in
--- the child in hand and in those after it is the search in all. Relies on specs/High/Steps.
+-- The loop of `search_children`: the search in the child in hand and in those after it is the search in all. The measure of the cycle is the level,
+-- which falls from a node to its children. Relies on specs/Laws/High.
 use Rattle.push.specs.Laws.High.{high_in}
 use Rattle.node.specs.Search.Own.{branch, branches_among}
 use Rattle.node.specs.Entries.{listed}

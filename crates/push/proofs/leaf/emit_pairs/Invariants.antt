@@ -1,5 +1,5 @@
--- `emit_pairs` meets its contract: the pairs left that stay, written behind what is written, are all that stay.
--- Relies on specs/LeafSteps, specs/WriteSteps and the contract of node's cursor.
+-- The loop of `emit_pairs`: the pairs left that stay, written behind what is written, are all that stay. The measure is the bytes left. Relies on
+-- specs/Sides.
 use Rattle.std.specs.Prelude.{length, ◌≡◌, ◌-◌, ◌+◌}
 use Rattle.node.specs.Entries.{listed}
 use Rattle.octets.specs.Put.{put}

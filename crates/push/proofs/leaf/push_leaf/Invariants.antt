@@ -1,5 +1,5 @@
--- `push_leaf` meets its contract: the entries left, taken after those that were taken, are all entries taken.
--- Relies on specs/LeafSteps and on the contract of node's cursor.
+-- The loop of `push_leaf`: the entries left, taken after those that were taken, are all entries taken. The measure is the bytes left. Relies on
+-- specs/Laws/Written and specs/Laws/Leaves.
 use Rattle.std.specs.Prelude.{length, true, ◌≡◌, ◌-◌}
 use Rattle.node.specs.Entries.{listed}
 use Rattle.push.specs.Laws.Written.{has_room}

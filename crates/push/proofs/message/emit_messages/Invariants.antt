@@ -1,5 +1,5 @@
--- `emit_messages` meets its contract: what the entries left bring, written behind what is written, is what all bring.
--- Relies on specs/WriteSteps and on the contract of node's cursor.
+-- The loop of `emit_messages`: what the entries left bring, written behind what is written, is what all bring. The measure is the bytes left.
+-- Relies on specs/Laws/Arriving.
 use Rattle.push.specs.Laws.Arriving.{brought_all}
 use Rattle.std.specs.Prelude.{length, ◌≡◌, ◌-◌, ◌+◌}
 use Rattle.node.specs.Entries.{listed}

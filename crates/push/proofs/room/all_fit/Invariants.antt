@@ -1,5 +1,5 @@
--- `all_fit` meets its contract: the test of the child in hand and of those after it is the test of all.
--- Relies on specs/ReadSteps and on node's reader of children.
+-- The loop of `all_fit`: the test of the child in hand and of those after it is the test of all. The measure is the bytes left. Relies on
+-- specs/Laws/Written.
 use Rattle.std.specs.Prelude.{length, ◌∷◌, ◌≡◌, ◌≤◌, ◌-◌}
 use Rattle.node.specs.Search.Own.{branch, branches_among}
 use Rattle.node.specs.Entries.{listed}

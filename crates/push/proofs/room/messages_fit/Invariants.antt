@@ -1,5 +1,5 @@
--- `messages_fit` meets its contract: the sum so far and what the entries left bring make the sum of all.
--- Relies on specs/ReadSteps and on the contract of node's cursor.
+-- The loop of `messages_fit`: the sum so far and what the entries left bring make the sum of all. The measure is the bytes left. Relies on
+-- specs/Laws/Arriving.
 use Rattle.std.specs.Prelude.{leb, length, ◌≡◌, ◌<◌, ◌-◌, ◌+◌}
 use Rattle.node.specs.Entries.{listed}
 use Rattle.push.specs.Laws.Arriving.{brought_all}

@@ -1,4 +1,4 @@
--- `script::reading::find_byte` meets its contract: the loop has passed i other bytes (specs/Find). Assumes nothing.
+-- The loop of `find_byte`: it has passed i other bytes. The measure is the bytes left. Relies on specs/Find.
 use Rattle.std.specs.Prelude.{◌+◌, ◌-◌, ◌≤◌, ◌≡◌, length, drop}
 use Rattle.script.specs.Find.{up_to}
 use Rattle.script.proofs.reading.find_byte.Given as goal

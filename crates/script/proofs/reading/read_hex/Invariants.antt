@@ -1,5 +1,5 @@
--- `script::reading::read_hex` meets its contract: the loop has read i digits into n bytes, and the rest is still to be read (specs/Reading). Assumes
--- nothing.
+-- The loop of `read_hex`: it has read i digits into n bytes, and the rest is still to be read. The measure is the digits left. Relies on
+-- specs/Reading.
 use Rattle.std.specs.Prelude.{length, take, drop, ◌*◌, ◌-◌, ◌≤◌, ◌≡◌}
 use Rattle.script.specs.Reading.{behind_all}
 use Rattle.image.specs.Program.{bytes_of}

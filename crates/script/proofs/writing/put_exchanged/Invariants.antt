@@ -1,4 +1,4 @@
--- `script::writing::put_exchanged` meets its contract: the loop has put the first i bytes (specs/Writing). Assumes nothing.
+-- The loop of `put_exchanged`: it has put the first i bytes. The measure is the bytes left. Relies on image's Program.
 use Rattle.std.specs.Prelude.{length, take, ◌+◌, ◌-◌, ◌≤◌, ◌≡◌, ◌++◌}
 use Rattle.image.specs.Program.{exchanged}
 use Rattle.script.proofs.writing.put_exchanged.Given as goal

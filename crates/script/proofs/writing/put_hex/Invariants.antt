@@ -1,4 +1,4 @@
--- `script::writing::put_hex` meets its contract: the loop has put two digits for each of the first i bytes (specs/Writing). Assumes nothing.
+-- The loop of `put_hex`: it has put two digits for each of the first i bytes. The measure is the bytes left. Relies on image's Program.
 use Rattle.std.specs.Prelude.{length, take, ◌*◌, ◌+◌, ◌-◌, ◌≤◌, ◌≡◌, ◌++◌}
 use Rattle.image.specs.Program.{hex_text}
 use Rattle.script.proofs.writing.put_hex.Given as goal

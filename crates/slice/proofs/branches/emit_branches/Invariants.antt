@@ -1,5 +1,5 @@
--- `emit_branches` meets its contract: the entries of the children left, written behind what is written, are those of all.
--- Relies on specs/BranchSteps, push/specs/WriteSteps and node's reader of children.
+-- The loop of `emit_branches`: the entries of the children left, written behind what is written, are those of all. The measure is how many are
+-- left. Relies on specs/Point.
 use Rattle.slice.specs.Point.{branch_line}
 use Rattle.push.specs.Laws.Written.{small_numbers}
 use Rattle.octets.specs.Put.{put}

@@ -1,5 +1,4 @@
--- `write_gap` meets its contract: a leaf, or a node over the chain below. The level falls.
--- Relies on specs/GapSteps.
+-- What falls from one call of `write_gap` to the next: the level, down the chain.
 use Rattle.slice.proofs.gap.+write_gap.Given as goal
 
 abbrev pub decreases-write_gap : goal.decreases-write_gap

@@ -1,5 +1,5 @@
--- `emit_pairs` meets its contract: the pairs left, written behind what is written, are all that are wanted.
--- Relies on specs/PairSteps, push/specs/WriteSteps and the contract of node's cursor.
+-- The loop of `emit_pairs`: the pairs left, written behind what is written, are all that are wanted. The measure is the bytes left. Relies on
+-- specs/Point.
 use Rattle.slice.specs.Point.{side_line}
 use Rattle.octets.specs.Put.{put}
 use Rattle.node.specs.Entries.{listed}

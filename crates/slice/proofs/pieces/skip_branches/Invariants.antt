@@ -1,5 +1,5 @@
--- `skip_branches` meets its contract: what is left to skip of the children left is what was to skip of all.
--- Relies on specs/PieceSteps and node's reader of children.
+-- The loop of `skip_branches`: what is left to skip of the children left is what was to skip of all. The measure is how many are left to skip.
+-- Relies on node's Own and Entries.
 use Rattle.node.specs.Search.Own.{branches_among}
 use Rattle.node.specs.Entries.{listed}
 use Rattle.std.specs.Prelude.{length, drop, ◌≡◌, ◌≤◌}

@@ -1,5 +1,5 @@
--- `find_point` meets its contract: the point among the child in hand and those after it is the point among all.
--- Relies on specs/PointSteps and on node's reader of children.
+-- The loop of `find_point`: the point among the child in hand and those after it is the point among all. The measure is the bytes left. Relies on
+-- specs/Point.
 use Rattle.slice.specs.Point.{point_of}
 use Rattle.node.specs.Places.{Within, part}
 use Rattle.node.specs.Entries.{listed}

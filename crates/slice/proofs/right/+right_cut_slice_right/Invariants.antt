@@ -1,4 +1,4 @@
--- `slice_right` and `right_cut` meet their contracts. The level falls from a node to its child. Relies on specs/RightSteps.
+-- What falls from one call of `slice_right` or `right_cut` to the next: the level, from a node to its child; within a level the cut comes first.
 use Rattle.std.specs.Prelude.{◌+◌, ◌*◌}
 use Rattle.slice.proofs.right.+right_cut_slice_right.Given as goal
 

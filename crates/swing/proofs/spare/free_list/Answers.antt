@@ -1,4 +1,4 @@
--- `free_list` meets its contract: its loop keeps an invariant. Relies on specs/Spare/Spare and specs/Spare/SpareSteps.
+-- `free_list` meets its contract: its loop keeps an invariant. Relies on specs/Spare/SpareSteps.
 use Rattle.std.proofs.Common.{rules}
 use Rattle.std.specs.Prelude.{refl}
 use Rattle.image.specs.Prelude.{arith}

@@ -1,4 +1,5 @@
--- `free_list` meets its contract: its loop keeps an invariant. Relies on specs/Spare/Spare and specs/Spare/SpareSteps.
+-- The loop of `free_list`: the numbers listed so far and the unmarked ones from i on are all unmarked ones. The measure is how many are left.
+-- Relies on specs/Spare/Spare.
 use Rattle.std.specs.Prelude.{◌+◌, ◌-◌, ◌≤◌, ◌≡◌, ◌++◌, length}
 use Rattle.packed.specs.Build.Handed.{listed}
 use Rattle.swing.specs.Spare.Spare.{unmarked}

@@ -1,5 +1,5 @@
--- `all_zero` is `zeros` of the part. The invariant: the part is all zero just when the bytes read and those left are.
--- Relies on Layout.
+-- The loop of `all_zero`: the part is all zero just when the bytes read and those left are. The measure is the bytes left. Relies on image's Bytes
+-- and node's Cut.
 use Rattle.std.specs.Prelude.{◌-◌, ◌≡◌, ◌&&◌, eqb}
 use Rattle.image.specs.Bytes.{zeros}
 use Rattle.node.specs.Cut.{cut}

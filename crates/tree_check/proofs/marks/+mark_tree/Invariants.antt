@@ -1,5 +1,5 @@
--- `mark_tree` meets its contract. The level falls from a node to its children. The loop over a node's entries: what is marked, with what the
--- entries that are left would mark, is the tree. Relies on specs/MarkSteps.
+-- The loop of `mark_tree`: what is marked, with what the entries left would mark, is the tree. The measure of the function itself is the level,
+-- that of the loop the bytes left. Relies on specs/MarkSteps.
 use Rattle.tree_check.specs.MarkSteps.{Left}
 use Rattle.node.specs.Entries.{listed}
 use Rattle.image.specs.Image.{tree_at}

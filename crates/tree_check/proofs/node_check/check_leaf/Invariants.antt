@@ -1,5 +1,5 @@
--- `check_leaf` meets its contract: the walk that asks only of the first and the last key whether the leaf owns it, and the count as it goes.
--- Relies on specs/Node/Ends and specs/Node/Counted.
+-- The loop of `check_leaf`: the walk over the entries left, which asks only of the first and the last key whether the leaf owns it, says what the
+-- leaf's run says. The measure is the bytes left. Relies on specs/Node/Leaf and specs/Node/Ends.
 use Rattle.std.specs.Prelude.{◌+◌, ◌-◌, ◌≤◌, ◌≡◌, length}
 use Rattle.image.specs.Prelude.{none}
 use Rattle.path.specs.Fed.{shape_is}

@@ -1,4 +1,5 @@
--- `check_messages` meets its contract: message by message, and the count as it goes. Relies on specs/Node/Messages and specs/Node/Counted.
+-- The loop of `check_messages`: the messages left run on as all do, and those counted and those left are all. The measure is the bytes left. Relies
+-- on specs/Node/Inside.
 use Rattle.std.specs.Prelude.{◌+◌, ◌-◌, ◌≤◌, ◌≡◌, length}
 use Rattle.path.specs.Fed.{shape_is}
 use Rattle.node.specs.Entries.{entries_from, listed}

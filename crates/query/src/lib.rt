@@ -75,7 +75,8 @@ pub fn next_fit(store: &[u8], path: &[u8], after: &[u8], buffer: &mut [u8]) -> F
     }
     let found = successor::next_path(store, path, after);
     let len = found.len;
-    if image::PATH_LIMIT < len {
+    let absent = image::PATH_LIMIT < len;
+    if absent {
         return Found::Refused(Refusal::Absent);
     }
     let bytes = found.bytes;

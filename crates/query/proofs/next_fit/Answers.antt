@@ -17,8 +17,8 @@ returns-then-buffer-lt-PATH_LIMIT c = record { meets = short-buffer c.args.store
 pub next_path-found-requires : goal.next_path-found-requires
 next_path-found-requires c = c.requires.1
 
-pub returns-then-len-gt-PATH_LIMIT : goal.returns-then-len-gt-PATH_LIMIT
-returns-then-len-gt-PATH_LIMIT c = record { meets = nothing-there c.args.store.now (next c.args.path.now c.args.after.now) c.args.buffer.now _ refl c.requires.0 _ refl c.requires.1 _ c.paths_fit.ensures c.if-not-paths_fit.false (next-room c.args.path.now c.args.after.now c.args.buffer.now (omega arith)) (path-absent _ _ _ _ c.next_path-found.ensures (omega arith)); short = refused-short _ _ }
+pub returns-then-absent : goal.returns-then-absent
+returns-then-absent c = record { meets = nothing-there c.args.store.now (next c.args.path.now c.args.after.now) c.args.buffer.now _ refl c.requires.0 _ refl c.requires.1 _ c.paths_fit.ensures c.if-not-paths_fit.false (next-room c.args.path.now c.args.after.now c.args.buffer.now (omega arith)) (path-absent _ _ _ _ c.next_path-found.ensures (omega arith)); short = refused-short _ _ }
 
 pub slice_bounds-copy_at-end : goal.slice_bounds-copy_at-end
 slice_bounds-copy_at-end c = let h : length c.next_path-found.result.bytes ≡ 64 = search rules in omega arith

@@ -10,7 +10,7 @@ unfoldable pub entries_from : List ℕ → ℕ → ℕ → Option (List Entry)
 entries_from s at end = entries_of (cut s at end)
 
 -- one entry of a list of bytes, and the rest
-read-cons : (x : List ℕ) → 0 < length x → entries_of x ≡
+pub read-cons : (x : List ℕ) → 0 < length x → entries_of x ≡
     cond (leb 4 (length x) && leb (u16 x 0) (length x - 4))
     (entry_then (entry_of (u16 x 2) (take (u16 x 0) (drop 4 x))) (entries_of (drop (u16 x 0) (drop 4 x))))
     none
@@ -96,7 +96,7 @@ fuel-some (suc k) (suc j) (b ∷ s) h g =
     (cons_then (entry_of (u16 (b ∷ s) 2) (take (u16 (b ∷ s) 0) (drop 4 (b ∷ s)))) r) [])
     (fuel-some k j (drop (u16 (b ∷ s) 0) (drop 4 (b ∷ s))) (shorter b s k h) (shorter b s j g))
 
-list-cons : (x : List ℕ) → 0 < length x → list_of x ≡
+pub list-cons : (x : List ℕ) → 0 < length x → list_of x ≡
     cond (leb 4 (length x) && leb (u16 x 0) (length x - 4))
     (cons_then (entry_of (u16 x 2) (take (u16 x 0) (drop 4 x))) (list_of (drop (u16 x 0) (drop 4 x))))
     []

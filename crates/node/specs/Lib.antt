@@ -1,5 +1,7 @@
 pub mod Cut
 pub mod Entries
+pub mod Lent
+pub mod Spans
 pub mod Places
 pub mod Whole
 pub mod Writer

@@ -4,6 +4,8 @@
 
 #![tactic(auto)]
 
+pub mod branches;
+pub mod entries;
 pub mod header;
 pub mod search;
 pub mod writer;

@@ -179,3 +179,9 @@ module _ (s front rest : List ℕ) (four : 4 ≤ length s) (f : front ≡ take 4
         let m = length-drop n rest in
         let z = ap length q in
         record { first = read-here ∙ ap (λ y. defined.entry_then y (defined.entries_of behind)) o; lists = list-here ∙ cons-some _ _ _ o; shorter = omega arith }
+
+-- a child's number is one of two bytes
+abbrev pub Small : defined.Entry → Type 0
+Small (defined.pair k v) = Unit
+Small (defined.child i k) = i < 65536
+Small (defined.message m) = Unit

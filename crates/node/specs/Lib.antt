@@ -1,6 +1,7 @@
 pub mod Cut
 pub mod Entries
 pub mod Lent
+pub mod Content
 pub mod Spans
 pub mod Places
 pub mod Whole

@@ -1,11 +1,15 @@
 -- Step lemmas of the writer: writes one after the other are one entry, and a page with its first bytes is one put into the store.
 -- Relies on octets' `put-put`; the bytes of an entry are laws' Encode.
-use Rattle.std.specs.Prelude.{ℕ, suc, ◌+◌, ◌*◌, ◌≤◌, ◌≡◌, refl, List, ◌++◌, length}
-use Rattle.image.specs.Prelude.{ap, ap₂, ◌∙◌, append_assoc, arith, length-append}
+use Rattle.std.specs.Prelude.{ℕ, suc, ◌+◌, ◌*◌, ◌<◌, ◌≤◌, ◌≡◌, refl, List, ◌++◌, length}
+use Rattle.image.specs.Prelude.{ap, ap₂, subst, ◌∙◌, append_assoc, arith, length-append}
 use Rattle.image.specs.Bytes.{u16_bytes}
-use Rattle.image.specs.Entry.{pair, child}
+use Rattle.image.specs.Entry.{pair, child, message}
 use Rattle.octets.specs.Put.{put, put-put}
-use Rattle.laws.specs.Encode.{rest_of, kind_of, bytes_of, keyed_entry, short_entry, head_bytes, pair_size, child-size}
+use Rattle.std.specs.Borrow.{Bor}
+use Rattle.laws.specs.Encode.{rest_of, kind_of, bytes_of, keyed_entry, short_entry, head_bytes, pair_size, child-size, pair-entry, put-entry, drop-entry, clear-entry, keyed-length, short-length}
+use Rattle.node.specs.Lent.{entry_is, message_is, Small}
+use Rattle.node.specs.declared.entries.Message.{Message}
+use Rattle.node.specs.declared.entries.Entry.{Entry}
 
 -- THE FIRST BYTES OF AN ENTRY, AND TWO PARTS BEHIND THEM
 pub head-put : (p p₁ p₂ p₃ : List ℕ) (at rest kind first : ℕ) → at + 6 ≤ length p → p₁ ≡ put p at (u16_bytes rest) → p₂ ≡ put p₁ (at + 2) (u16_bytes kind) → p₃ ≡ put p₂ (at + 4) (u16_bytes first)
@@ -103,3 +107,40 @@ pub page-put : (page p₁ p₂ p₃ store store' : List ℕ) (num kind level siz
     → store' ≡ put store (num * 1024) p₃ → store' ≡ put store (num * 1024) (put (put (put page 0 (u16_bytes size)) 2 (u16_bytes kind)) 4 (u16_bytes level))
 page-put page p₁ p₂ p₃ store store' num kind level size a b c d =
     d ∙ ap (put store (num * 1024)) (c ∙ ap (λ x. put x 4 (u16_bytes level)) (b ∙ ap (λ x. put x 2 (u16_bytes kind)) a))
+
+-- AN ENTRY BY ITS KIND, and how many bytes it takes
+pub putting : (m : Message) (k v : Bor (List ℕ)) → m ≡ Message.Put k v → bytes_of (message (message_is m)) ≡ keyed_entry 32 k.now v.now
+putting m k v q = rw q (put-entry k.now v.now)
+
+pub putting-takes : (m : Message) (k v : Bor (List ℕ)) → m ≡ Message.Put k v → length (bytes_of (message (message_is m))) ≡ 6 + length k.now + length v.now
+putting-takes m k v q = ap length (putting m k v q) ∙ keyed-length 32 k.now v.now
+
+pub dropping : (m : Message) (k : Bor (List ℕ)) → m ≡ Message.Drop k → bytes_of (message (message_is m)) ≡ short_entry 33 k.now
+dropping m k q = rw q (drop-entry k.now)
+
+pub dropping-takes : (m : Message) (k : Bor (List ℕ)) → m ≡ Message.Drop k → length (bytes_of (message (message_is m))) ≡ 4 + length k.now
+dropping-takes m k q = ap length (dropping m k q) ∙ short-length 33 k.now
+
+pub clearing : (m : Message) (k : Bor (List ℕ)) → m ≡ Message.Clear k → bytes_of (message (message_is m)) ≡ short_entry 34 k.now
+clearing m k q = rw q (clear-entry k.now)
+
+pub clearing-takes : (m : Message) (k : Bor (List ℕ)) → m ≡ Message.Clear k → length (bytes_of (message (message_is m))) ≡ 4 + length k.now
+clearing-takes m k q = ap length (clearing m k q) ∙ short-length 34 k.now
+
+pub pairing : (e : Entry) (k v : Bor (List ℕ)) → e ≡ Entry.Pair k v → bytes_of (entry_is e) ≡ keyed_entry 1 k.now v.now
+pairing e k v q = rw q (pair-entry k.now v.now)
+
+pub pairing-takes : (e : Entry) (k v : Bor (List ℕ)) → e ≡ Entry.Pair k v → length (bytes_of (entry_is e)) ≡ 6 + length k.now + length v.now
+pairing-takes e k v q = ap length (pairing e k v q) ∙ keyed-length 1 k.now v.now
+
+pub pointing : (e : Entry) (i : ℕ) (k : Bor (List ℕ)) → e ≡ Entry.Child i k → bytes_of (entry_is e) ≡ bytes_of (child i k.now)
+pointing e i k q = rw q
+
+pub pointing-takes : (e : Entry) (i : ℕ) (k : Bor (List ℕ)) → e ≡ Entry.Child i k → length (bytes_of (entry_is e)) ≡ 6 + length k.now
+pointing-takes e i k q = ap length (pointing e i k q) ∙ child-size i k.now
+
+pub pointing-small : (e : Entry) (i : ℕ) (k : Bor (List ℕ)) → e ≡ Entry.Child i k → Small (entry_is e) → i < 65536
+pointing-small e i k q h = subst (λ x. Small (entry_is x)) q h
+
+pub telling : (e : Entry) (m : Message) → e ≡ Entry.Message m → bytes_of (entry_is e) ≡ bytes_of (message (message_is m))
+telling e m q = rw q

@@ -3,12 +3,15 @@
 // specs/Pages the steps.
 ghost use Rattle.std.specs.Prelude.{◌≡◌, [], ◌++◌, ◌+◌, ◌*◌, ◌/◌, ◌<◌, ◌≤◌, length};
 ghost use Rattle.image.specs.Bytes.{u16_bytes};
-ghost use Rattle.image.specs.Entry.{pair, child};
+ghost use Rattle.image.specs.Entry.{pair, child, message};
 ghost use Rattle.laws.specs.Encode.{bytes_of, keyed_entry, short_entry, head_bytes};
 ghost use Rattle.laws.specs.Page.{page, head_page};
 ghost use Rattle.laws.specs.WriteNode.{write_node};
 ghost use Rattle.octets.specs.Put.{put};
 ghost use Rattle.node.specs.Whole.{HasNode};
+ghost use Rattle.node.specs.Lent.{entry_is, message_is, Small};
+
+use crate::entries::{Entry, Message};
 
 // The first bytes of the entry of a pair, a put or a child: the length of its rest, its kind, and the number that its rest begins with.
 fn write_head(page: &mut [u8], at: usize, rest: usize, kind: usize, first: usize)
@@ -70,6 +73,37 @@ pub fn write_child(page: &mut [u8], at: usize, number: usize, suffix: &[u8]) -> 
     write_head(page, at, 2 + n, image::CHILD, number);
     octets::copy_at(page, at + 6, suffix);
     at + (6 + n)
+}
+
+// The entry of a message. Gives the place behind it.
+pub fn write_message(page: &mut [u8], at: usize, given: Message) -> usize
+    requires { (at + length (bytes_of (message (message_is given))) ≤ length page.old)
+        × (length page.old ≤ 2000000)
+        × (length (bytes_of (message (message_is given))) ≤ 1024) }
+    ensures { (page.new ≡ put page.old at (bytes_of (message (message_is given.entry))))
+        × (result ≡ at + length (bytes_of (message (message_is given.entry)))) }
+{
+    match given {
+        Message::Put(key, value) => write_keyed(page, at, image::PUT, key, value),
+        Message::Drop(key) => write_short(page, at, image::DROP, key),
+        Message::Clear(key) => write_short(page, at, image::CLEAR, key),
+    }
+}
+
+// Any entry. Gives the place behind it.
+pub fn write_entry(page: &mut [u8], at: usize, entry: Entry) -> usize
+    requires { (at + length (bytes_of (entry_is entry)) ≤ length page.old)
+        × (length page.old ≤ 2000000)
+        × (length (bytes_of (entry_is entry)) ≤ 1024)
+        × Small (entry_is entry) }
+    ensures { (page.new ≡ put page.old at (bytes_of (entry_is entry.entry)))
+        × (result ≡ at + length (bytes_of (entry_is entry.entry))) }
+{
+    match entry {
+        Entry::Pair(key, value) => write_keyed(page, at, image::PAIR, key, value),
+        Entry::Child(number, pivot) => write_child(page, at, number, pivot),
+        Entry::Message(message) => write_message(page, at, message),
+    }
 }
 
 // The entry of a pair with more bytes in front of its suffix. Gives the place behind it.

@@ -1,25 +1,21 @@
 -- The steps of the writers: each put after the last one is one put, and the whole is what append's Laws defines.
 -- Relies on octets' `put-put`.
 use Rattle.std.specs.Prelude.{ℕ, ◌+◌, ◌*◌, ◌-◌, ◌≤◌, ◌<◌, ◌≡◌, refl, List, [], ◌++◌, true, false, length, leb}
-use Rattle.image.specs.Prelude.{sym, ap, ap₂, ◌∙◌, append-nil, arith, length-append, lt-leb, le-leb}
+use Rattle.image.specs.Prelude.{sym, ap, ap₂, ◌∙◌, append-nil, arith, lt-leb, le-leb}
 use Rattle.image.specs.Bytes.{u16, u16_bytes}
 use Rattle.image.specs.Entry.{Message, child, message}
 use Rattle.image.specs.Image.{whole_nodes}
-use Rattle.octets.specs.Put.{put, put-put}
-use Rattle.laws.specs.Encode.{bytes_of, bytes_of_all, child-size}
-use Rattle.laws.specs.Page.{page, zeros_of}
-use Rattle.node.specs.Pages.{page-is}
+use Rattle.octets.specs.Put.{put}
+use Rattle.laws.specs.Encode.{bytes_of, bytes_of_all}
+use Rattle.laws.specs.Page.{page}
+use Rattle.node.specs.Pages.{put-node}
+use Rattle.laws.specs.WriteNode.{write_node}
 use Rattle.laws.specs.Upkeep.Page.{page_of}
 use Rattle.node.specs.Whole.{Whole, whole_parts}
 use Rattle.laws.specs.ButLive.{sound_but_live, SoundParts, parts_of}
 use Rattle.append.specs.Laws.Append.{root_at, room_at_root, appended, root-inside, header-root, header-levels, room_fits}
-use Rattle.append.specs.Laws.Raise.{root_page, root_raised}
+use Rattle.append.specs.Laws.Raise.{root_page, root_raised, root-page-length}
 use Rattle.append.specs.Laws.SetLive.{with_live}
-
--- one put after another
-then-put : (s t u : List ℕ) (at : ℕ) (a : List ℕ) (k : ℕ) (b : List ℕ) → t ≡ put s at a → u ≡ put t k b → k ≡ at + length a
-    → at + length a + length b ≤ length s → u ≡ put s at (a ++ b)
-then-put s t u at a k b e f h l = f ∙ ap₂ (λ x n. put x n b) e h ∙ put-put s at a b l
 
 -- A MESSAGE APPENDED: its entry has n bytes and ends at `end`
 pub appends : (s s₁ s₂ bytes : List ℕ) (m : Message) (at len n end : ℕ) → bytes_of (message m) ≡ bytes → n ≡ length bytes → at ≡ root_at s → len ≡ u16 s at
@@ -37,29 +33,19 @@ root-page : (level old : ℕ) (m : Message) (bytes : List ℕ) → bytes_of (mes
 unfolding root_page page_of bytes_of_all
 root-page level old m bytes b = ap (λ l. page 2 level (bytes_of (child old []) ++ l)) (sym b ∙ sym (append-nil (bytes_of (message m))))
 
--- the page has the entry of the old root, then the message's, of n bytes, which ends at `end`
-pub raises : (s s' page₁ page₂ bytes : List ℕ) (i level levels old n from end : ℕ) (m : Message) → bytes_of (message m) ≡ bytes → n ≡ length bytes → n ≤ 1010
-    → old ≡ u16 s 6 → levels ≡ u16 s 8 → level ≡ levels + 1
-    → page₁ ≡ put (zeros_of 1024) 8 (bytes_of (child old [])) → from ≡ 14 → page₂ ≡ put page₁ from bytes → end ≡ from + n
-    → s' ≡ put (put (put s (i * 1024) (put (put (put page₂ 0 (u16_bytes (end - 8))) 2 (u16_bytes 2)) 4 (u16_bytes level))) 6 (u16_bytes i)) 8 (u16_bytes level)
-    → s' ≡ root_raised s i m
+-- the page of the new root, and node 0 named after it
+pub raises : (s s₁ s₂ s₃ body : List ℕ) (i level levels old : ℕ) (m : Message) → length (bytes_of (message m)) ≤ 1010
+    → old ≡ u16 s 6 → levels ≡ u16 s 8 → level ≡ levels + 1 → body ≡ bytes_of (child old []) ++ bytes_of (message m)
+    → s₁ ≡ write_node s i (page 2 level body) → s₂ ≡ put s₁ 6 (u16_bytes i) → s₃ ≡ put s₂ 8 (u16_bytes level)
+    → s₃ ≡ root_raised s i m
 unfolding root_raised
-raises s s' page₁ page₂ bytes i level levels old n from end m b k h a l c e₁ q e₂ r f =
-    let C : List ℕ = bytes_of (child old []) in
-    let z : length C ≡ 6 = child-size old [] in
-    let zl : length (zeros_of 1024) ≡ 1024 = unfold zeros_of in refl in
-    let t : page₂ ≡ put (zeros_of 1024) 8 (C ++ bytes) = then-put (zeros_of 1024) page₁ page₂ 8 C from bytes e₁ e₂ (omega arith) (omega arith) in
-    let w : length (C ++ bytes) ≡ length C + length bytes = length-append C bytes in
-    let v : end - 8 ≡ length (C ++ bytes) = omega arith in
-    let p : put (put (put page₂ 0 (u16_bytes (end - 8))) 2 (u16_bytes 2)) 4 (u16_bytes level) ≡ page 2 level (C ++ bytes) =
-    ap₂ (λ x y. put (put (put x 0 (u16_bytes y)) 2 (u16_bytes 2)) 4 (u16_bytes level)) t v ∙ page-is (C ++ bytes) 2 level (omega arith) in
+raises s s₁ s₂ s₃ body i level levels old m h a l c b e₁ e₂ e₃ =
     let up : level ≡ u16 s 8 + 1 = c ∙ ap (λ y. y + 1) l in
-    f ∙ ap (λ y. put (put (put s (i * 1024) y) 6 (u16_bytes i)) 8 (u16_bytes level)) (p ∙ root-page level old m bytes b)
+    let p : page 2 level body ≡ root_page level old m = ap (page 2 level) b ∙ root-page level old m (bytes_of (message m)) refl in
+    let w : s₁ ≡ put s (i * 1024) (root_page level old m) =
+    e₁ ∙ ap (write_node s i) p ∙ sym (put-node s i (root_page level old m) (root-page-length level old m h)) in
+    e₃ ∙ ap (λ x. put x 8 (u16_bytes level)) (e₂ ∙ ap (λ x. put x 6 (u16_bytes i)) w)
     ∙ ap₂ (λ x y. put (put (put s (i * 1024) (root_page x y m)) 6 (u16_bytes i)) 8 (u16_bytes x)) up a
-
-pub installs : (s s₁ s₂ s₃ page : List ℕ) (i levels : ℕ) → s₁ ≡ put s (i * 1024) page → s₂ ≡ put s₁ 6 (u16_bytes i) → s₃ ≡ put s₂ 8 (u16_bytes levels)
-    → s₃ ≡ put (put (put s (i * 1024) page) 6 (u16_bytes i)) 8 (u16_bytes levels)
-installs s s₁ s₂ s₃ page i levels e₁ e₂ e₃ = e₃ ∙ ap (λ l. put l 8 (u16_bytes levels)) (e₂ ∙ ap (λ l. put l 6 (u16_bytes i)) e₁)
 
 -- THE LIVE COUNT
 pub sets-live : (s s₁ : List ℕ) (live : ℕ) → s₁ ≡ put s 10 (u16_bytes live) → s₁ ≡ with_live s live

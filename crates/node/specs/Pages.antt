@@ -31,7 +31,7 @@ page-is es kind level h =
     heads r = unfold put in refl
 
 -- A PAGE AS A NODE OF A STORE
-put-node : (store : List ℕ) (num : ℕ) (bytes : List ℕ) → length bytes ≡ 1024 → put store (num * 1024) bytes ≡ write_node store num bytes
+pub put-node : (store : List ℕ) (num : ℕ) (bytes : List ℕ) → length bytes ≡ 1024 → put store (num * 1024) bytes ≡ write_node store num bytes
 unfolding put write_node
 put-node store num bytes e =
     let a : num * 1024 ≡ 1024 * num = omega arith in

@@ -1,14 +1,14 @@
 -- A call after questions 1 and 2: what it is handed, and what its part from question 3 on leaves of the store and of the work area.
 -- Relies on rebuild (an area cleared) and on finish (a cleared area, cleared again).
-use Rattle.std.specs.Prelude.{ℕ, ◌*◌, ◌/◌, ◌≤◌, ◌≡◌, refl, List, ◌++◌, true, ◌⊎◌, length, drop, Result, Ok, Err, is_ok, false}
-use Rattle.image.specs.Prelude.{false≢true, sym, ap, subst, ◌∙◌, inl, ⊎_elim, arith}
+use Rattle.std.specs.Prelude.{ℕ, ◌*◌, ◌/◌, ◌≤◌, ◌≡◌, refl, List, true, ◌⊎◌, length, drop, Result, Ok, Err, IsErrAnd}
+use Rattle.std.proofs.lemmas.Result.{err_from_is_err_and}
+use Rattle.image.specs.Prelude.{sym, ap, subst, ◌∙◌, inl, ⊎_elim, arith}
 use Rattle.image.specs.Image.{nodes_of, whole_nodes}
 use Rattle.image.specs.Sound.{sound, table_of}
 use Rattle.image.specs.Calls.{Call, work_per_node, table_after}
 use Rattle.image.specs.Contract.{first_no_on, Besides, Meets}
 use Rattle.image.specs.Answers.{refusal_number, outcome_answer}
 use Rattle.image.specs.declared.Refusal.{Refusal}
-use Rattle.laws.specs.Page.{zeros_of}
 use Rattle.node.specs.Whole.{whole_parts}
 use Rattle.rebuild.specs.Rebuild.{cleared}
 use Rattle.questions.specs.Callers.{Lent, act-meets, act-refused}
@@ -93,13 +93,17 @@ module _ (s : List ℕ) (c : Call) (r : Result (Unit {0}) Refusal) (s' w w' : Li
         by_answer (Ok u) = unfold area_after in sym zero_area
         by_answer (Err x) = unfold area_after in refl
 
--- the ways out of zero_area
-pub zeroed-done : (r : Result (Unit {0}) Refusal) (n len : ℕ) (w w' : List ℕ) → is_ok r ≡ true → len ≡ 128 * n → w' ≡ zeros_of len ++ drop len w → w' ≡ area_after r n w
-unfolding area_after zeros_of
-zeroed-done (Ok u) n len w w' e l f = f ∙ rw l refl
-zeroed-done (Err q) n len w w' e l f = absurd (false≢true e)
+-- FOR CALLERS
+module _ (s : List ℕ) (c : Call) (s' w w' : List ℕ) where
+  -- accepted: the area is zeroed
+  pub accepted-meets : Passed s w → Acted s c (Ok tt) s' w w' → (n : ℕ) (w'' : List ℕ) → n ≡ length s' / 1024 → w'' ≡ cleared n w'
+      → Meets s c (outcome_answer (Ok tt)) s' w''
+  unfolding area_after
+  accepted-meets p a n w'' z e = acted-meets s c (Ok tt) s' w w' p a n w'' z e
 
-pub zeroed-not : (r : Result (Unit {0}) Refusal) (n : ℕ) (w : List ℕ) → is_ok r ≡ false → w ≡ area_after r n w
-unfolding area_after
-zeroed-not (Ok u) n w e = absurd (false≢true (sym e))
-zeroed-not (Err q) n w e = refl
+  -- refused: the refusal is handed on, and the area left
+  pub refused-left : (q : Refusal) → Acted s c (Err q) s' w w' → (r : Result (Unit {0}) Refusal) → IsErrAnd r (λ y. y ≡ q) → Meets s c (outcome_answer r) s' w'
+  unfolding area_after
+  refused-left q a r h =
+      let p = err_from_is_err_and r h in
+      rw (p.1, p.2) (subst (Meets s c (outcome_answer (Err q)) s') (sym (a.kept q refl)) a.met)

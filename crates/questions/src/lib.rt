@@ -6,7 +6,7 @@
 
 ghost use Rattle.std.specs.Prelude.{◌≡◌, ◌*◌, ◌≤◌, length};
 ghost use Rattle.questions.specs.Asked.{Asked};
-ghost use Rattle.questions.specs.Acted.{area_after};
+ghost use Rattle.rebuild.specs.Rebuild.{cleared};
 
 use image::Refusal;
 use tree_check::{Checked, Tally};
@@ -29,12 +29,11 @@ pub fn ask(store: &[u8], work: &[u8], seen: &mut [u8; 1024]) -> Result<Tally, Re
     Ok(tally)
 }
 
-// The end of a call on a store of n nodes: an accepted one leaves its part of the work area zero.
-pub fn zero_area(outcome: Result<(), Refusal>, work: &mut [u8], n: usize)
+// The end of an accepted call on a store of n nodes: its part of the work area is left zero.
+#[tactic(auto, unfolding(laws::specs::Page::zeros_of))]
+pub fn zero_area(work: &mut [u8], n: usize)
     requires { (128 * n ≤ length work.old) × (n ≤ 1024) }
-    ensures { work.new ≡ area_after outcome n work.old }
+    ensures { work.new ≡ cleared n work.old }
 {
-    if outcome.is_ok() {
-        packed::clear_area(work, image::WORK_PER_NODE * n);
-    }
+    packed::clear_area(work, image::WORK_PER_NODE * n);
 }

@@ -1,5 +1,5 @@
 -- A change carried out: what each step leaves, and the contract of put, drop and clear from it.
-use Rattle.std.specs.Prelude.{ℕ, ◌+◌, ◌*◌, ◌/◌, ◌<◌, ◌≤◌, ◌≡◌, refl, List, [], ◌∷◌, ◌++◌, Bool, true, false, ◌||◌, ◌⊎◌, length, drop, leb, ltb}
+use Rattle.std.specs.Prelude.{ℕ, ◌+◌, ◌*◌, ◌/◌, ◌<◌, ◌≤◌, ◌≡◌, refl, List, [], ◌∷◌, ◌++◌, Bool, true, false, ◌||◌, ◌⊎◌, length, drop, leb, ltb, Ok, Err}
 use Rattle.image.specs.Prelude.{sym, ap, subst, ◌∙◌, false≢true, inl, arith, le-leb, lt-leb}
 use Rattle.image.specs.Bytes.{same}
 use Rattle.image.specs.Path.{well_formed, value_limit, value_fits}
@@ -13,7 +13,6 @@ use Rattle.image.specs.Calls.{acts, Act, first_no, work_per_node, questions, act
 use Rattle.image.specs.Contract.{node_questions, first_no_on, Besides, Made}
 use Rattle.image.specs.Answers.{refusal_number}
 use Rattle.image.specs.declared.Refusal.{Refusal}
-use Rattle.image.specs.declared.Outcome.{Outcome}
 use Rattle.laws.specs.ButLive.{sound_but_live, sound-but-live}
 use Rattle.append.specs.Laws.Append.{room_at_root, appended, Appended}
 use Rattle.append.specs.Laws.Raise.{root_raised}
@@ -176,7 +175,7 @@ module _ (s w : List ℕ) (whole : whole_nodes (length s) ≡ true) (ok : sound 
   number_by a = later-number s to_act whole long ok
 
   -- a clear of the empty path leaves a store as one just made
-  pub clear_all : (p : List ℕ) → length p ≡ 0 → (s' : List ℕ) → s' ≡ emptied s → Acted s (acts (calls.clear p) w) Outcome.Done s' w w
+  pub clear_all : (p : List ℕ) → length p ≡ 0 → (s' : List ℕ) → s' ≡ emptied s → Acted s (acts (calls.clear p) w) (Ok tt) s' w w
   unfolding act_questions first_no table_after act_table Besides same
   clear_all [] h s' e =
       let made : Made s' = subst Made (sym e) (emptied-made s whole) in
@@ -184,30 +183,30 @@ module _ (s w : List ℕ) (whole : whole_nodes (length s) ≡ true) (ok : sound 
   clear_all (b ∷ p) h s' e = absurd (omega arith)
 
   module _ (p : List ℕ) (x : Bool) (x-is : x ≡ well_formed p) where
-    pub put-malformed : (v : List ℕ) → x ≡ false → Acted s (acts (calls.put p v) w) (Outcome.Refused Refusal.Malformed) s w w
+    pub put-malformed : (v : List ℕ) → x ≡ false → Acted s (acts (calls.put p v) w) (Err Refusal.Malformed) s w w
     unfolding act_questions first_no refusal_number
     put-malformed v f = acted-refused s Refusal.Malformed to_act (number_by (calls.put p v) ∙ rw (sym x-is ∙ f) refl)
 
-    pub drop-malformed : x ≡ false → Acted s (acts (calls.drops p) w) (Outcome.Refused Refusal.Malformed) s w w
+    pub drop-malformed : x ≡ false → Acted s (acts (calls.drops p) w) (Err Refusal.Malformed) s w w
     unfolding act_questions first_no refusal_number
     drop-malformed f = acted-refused s Refusal.Malformed to_act (number_by (calls.drops p) ∙ rw (sym x-is ∙ f) refl)
 
-    pub clear-malformed : (length p ≡ 0 → ⊥) → x ≡ false → Acted s (acts (calls.clear p) w) (Outcome.Refused Refusal.Malformed) s w w
+    pub clear-malformed : (length p ≡ 0 → ⊥) → x ≡ false → Acted s (acts (calls.clear p) w) (Err Refusal.Malformed) s w w
     unfolding act_questions first_no refusal_number
     clear-malformed some f = acted-refused s Refusal.Malformed to_act (number_by (calls.clear p) ∙ rw (sym (some-fed x p some x-is) ∙ f) refl)
 
     module _ (x-yes : x ≡ true) where
-      pub drop-done : (v s' w' : List ℕ) → Edited s s' w w' (message_of Change.Drop p v) → Acted s (acts (calls.drops p) w) Outcome.Done s' w w'
+      pub drop-done : (v s' w' : List ℕ) → Edited s s' w w' (message_of Change.Drop p v) → Acted s (acts (calls.drops p) w) (Ok tt) s' w w'
       unfolding act_questions first_no message_of apply table_after act_table Besides
       drop-done v s' w' e =
           acted-done s s' w' to_act (number_by (calls.drops p) ∙ rw (sym x-is ∙ x-yes) refl) e.is_sound e.table e.size e.area tt
 
-      pub clear-done : (length p ≡ 0 → ⊥) → (v s' w' : List ℕ) → Edited s s' w w' (message_of Change.Clear p v) → Acted s (acts (calls.clear p) w) Outcome.Done s' w w'
+      pub clear-done : (length p ≡ 0 → ⊥) → (v s' w' : List ℕ) → Edited s s' w w' (message_of Change.Clear p v) → Acted s (acts (calls.clear p) w) (Ok tt) s' w w'
       unfolding act_questions first_no message_of apply table_after act_table Besides
       clear-done some v s' w' e =
           acted-done s s' w' to_act (number_by (calls.clear p) ∙ rw (sym (some-fed x p some x-is) ∙ x-yes) refl) e.is_sound e.table e.size e.area tt
 
-      pub put-long : (v : List ℕ) → value_limit < length v → Acted s (acts (calls.put p v) w) (Outcome.Refused Refusal.LongValue) s w w
+      pub put-long : (v : List ℕ) → value_limit < length v → Acted s (acts (calls.put p v) w) (Err Refusal.LongValue) s w w
       unfolding act_questions first_no refusal_number value_fits
       put-long v h = acted-refused s Refusal.LongValue to_act (number_by (calls.put p v) ∙ rw (sym x-is ∙ x-yes, lt-leb (length v) value_limit h) refl)
 
@@ -218,7 +217,7 @@ module _ (s w : List ℕ) (whole : whole_nodes (length s) ≡ true) (ok : sound 
             let z : n ≡ nodes_of (length s) = n-is ∙ nodes-are (length s) in
             ap (leb count) z ∙ place-told p (table_of s) (nodes_of (length s)) count (table-rises s ok) (table-few s ok) counted
 
-        pub put_full : n < count → Acted s (acts (calls.put p v) w) (Outcome.Refused Refusal.Full) s w w
+        pub put_full : n < count → Acted s (acts (calls.put p v) w) (Err Refusal.Full) s w w
         unfolding act_questions first_no refusal_number value_fits
         put_full h =
             acted-refused s Refusal.Full to_act (number_by (calls.put p v) ∙ rw (sym x-is ∙ x-yes, le-leb (length v) value_limit short, sym place ∙ lt-leb count n h) refl)
@@ -227,7 +226,7 @@ module _ (s w : List ℕ) (whole : whole_nodes (length s) ≡ true) (ok : sound 
           left : is_some (find p (table_of s)) || ltb (length (table_of s)) (nodes_of (length s)) ≡ true
           left = sym place ∙ le-leb count n h
 
-          pub put-done : (s' w' : List ℕ) → Edited s s' w w' (message_of Change.Put p v) → Acted s (acts (calls.put p v) w) Outcome.Done s' w w'
+          pub put-done : (s' w' : List ℕ) → Edited s s' w w' (message_of Change.Put p v) → Acted s (acts (calls.put p v) w) (Ok tt) s' w w'
           unfolding act_questions first_no message_of apply table_after act_table Besides value_fits
           put-done s' w' e =
               acted-done s s' w' to_act (number_by (calls.put p v) ∙ rw (sym x-is ∙ x-yes, le-leb (length v) value_limit short, left) refl) e.is_sound e.table e.size e.area tt

@@ -21,9 +21,8 @@ ghost use Rattle.edit.specs.Known.{Known, CountWith};
 ghost use Rattle.edit.specs.Room.{Above, Free, MarkedWhere, SpotFits, Roomy, spare};
 ghost use Rattle.edit.specs.Edited.{Counted, Edited};
 
-use image::{Outcome, Refusal};
+use image::Refusal;
 use node::search::Found;
-use questions::Admission;
 
 // So many messages wait in the root at most after a call: each costs every later judgement, and a rebuild that comes sooner is cheaper. A batch,
 // which judges once, keeps to it by its last change.
@@ -46,6 +45,12 @@ pub struct Terms {
     pub waiting: usize,
     pub marked: bool,
 }
+
+// The terms of a call by itself.
+const ALONE: Terms = Terms {
+    waiting: WAITING,
+    marked: true,
+};
 
 // A change that the questions allow: how many paths there are after it, or 65,536 where that is not known, and its terms.
 #[derive(Clone, Copy)]
@@ -265,19 +270,19 @@ pub fn put_fit(
     path: &[u8],
     value: &[u8],
     terms: Terms,
-) -> Outcome
+) -> Result<(), Refusal>
     requires { Passed store.old work.old × MarkedWhere terms.marked store.old seen.now }
     ensures { Acted store.old (acts (put path.now value.now) work.old) result store.new work.old work.new }
 {
     if !path::is_path(path) {
-        return Outcome::Refused(Refusal::Malformed);
+        return Err(Refusal::Malformed);
     }
     if image::VALUE_LIMIT < value.len() {
-        return Outcome::Refused(Refusal::LongValue);
+        return Err(Refusal::LongValue);
     }
     let count = count_with(store, path);
     if store.len() / image::NODE_SIZE < count {
-        return Outcome::Refused(Refusal::Full);
+        return Err(Refusal::Full);
     }
     let edit = Edit {
         change: Change::Put,
@@ -285,27 +290,18 @@ pub fn put_fit(
         terms,
     };
     apply_change(store, work, seen, path, value, edit);
-    Outcome::Done
+    Ok(())
 }
 
 // The path has this value.
-pub fn put(store: &mut [u8], work: &mut [u8], path: &[u8], value: &[u8]) -> Outcome
+pub fn put(store: &mut [u8], work: &mut [u8], path: &[u8], value: &[u8]) -> Result<(), Refusal>
     ensures { Meets store.old (acts (put path.now value.now) work.old) (outcome_answer result) store.new work.new }
 {
     let mut seen = [0u8; 1024];
-    let asked = questions::ask(store, work, &mut seen);
-    match asked {
-        Admission::Refused(refusal) => Outcome::Refused(refusal),
-        Admission::Fit(_) => {
-            let terms = Terms {
-                waiting: WAITING,
-                marked: true,
-            };
-            let outcome = put_fit(store, work, &seen, path, value, terms);
-            questions::zero_area(outcome, work, store.len() / image::NODE_SIZE);
-            outcome
-        }
-    }
+    questions::ask(store, work, &mut seen)?;
+    put_fit(store, work, &seen, path, value, ALONE)?;
+    questions::zero_area(work, store.len() / image::NODE_SIZE);
+    Ok(())
 }
 
 // drop, likewise.
@@ -315,12 +311,12 @@ pub fn drop_fit(
     seen: &[u8; 1024],
     path: &[u8],
     terms: Terms,
-) -> Outcome
+) -> Result<(), Refusal>
     requires { Passed store.old work.old × MarkedWhere terms.marked store.old seen.now }
     ensures { Acted store.old (acts (drops path.now) work.old) result store.new work.old work.new }
 {
     if !path::is_path(path) {
-        return Outcome::Refused(Refusal::Malformed);
+        return Err(Refusal::Malformed);
     }
     let count = count_without(store, path);
     let edit = Edit {
@@ -329,27 +325,18 @@ pub fn drop_fit(
         terms,
     };
     apply_change(store, work, seen, path, &path[0..0], edit);
-    Outcome::Done
+    Ok(())
 }
 
 // The path is absent.
-pub fn drop(store: &mut [u8], work: &mut [u8], path: &[u8]) -> Outcome
+pub fn drop(store: &mut [u8], work: &mut [u8], path: &[u8]) -> Result<(), Refusal>
     ensures { Meets store.old (acts (drops path.now) work.old) (outcome_answer result) store.new work.new }
 {
     let mut seen = [0u8; 1024];
-    let asked = questions::ask(store, work, &mut seen);
-    match asked {
-        Admission::Refused(refusal) => Outcome::Refused(refusal),
-        Admission::Fit(_) => {
-            let terms = Terms {
-                waiting: WAITING,
-                marked: true,
-            };
-            let outcome = drop_fit(store, work, &seen, path, terms);
-            questions::zero_area(outcome, work, store.len() / image::NODE_SIZE);
-            outcome
-        }
-    }
+    questions::ask(store, work, &mut seen)?;
+    drop_fit(store, work, &seen, path, ALONE)?;
+    questions::zero_area(work, store.len() / image::NODE_SIZE);
+    Ok(())
 }
 
 // clear, likewise. Every path is below the empty one: then the store is as one just made. Else it is not known how many paths there are below the
@@ -360,16 +347,16 @@ pub fn clear_fit(
     seen: &[u8; 1024],
     path: &[u8],
     terms: Terms,
-) -> Outcome
+) -> Result<(), Refusal>
     requires { Passed store.old work.old × MarkedWhere terms.marked store.old seen.now }
     ensures { Acted store.old (acts (clear path.now) work.old) result store.new work.old work.new }
 {
     if path.len() == 0 {
         make::write_empty(store);
-        return Outcome::Done;
+        return Ok(());
     }
     if !path::is_path(path) {
-        return Outcome::Refused(Refusal::Malformed);
+        return Err(Refusal::Malformed);
     }
     let edit = Edit {
         change: Change::Clear,
@@ -377,25 +364,16 @@ pub fn clear_fit(
         terms,
     };
     apply_change(store, work, seen, path, &path[0..0], edit);
-    Outcome::Done
+    Ok(())
 }
 
 // Every path below the given one, which may be empty, is absent.
-pub fn clear(store: &mut [u8], work: &mut [u8], path: &[u8]) -> Outcome
+pub fn clear(store: &mut [u8], work: &mut [u8], path: &[u8]) -> Result<(), Refusal>
     ensures { Meets store.old (acts (clear path.now) work.old) (outcome_answer result) store.new work.new }
 {
     let mut seen = [0u8; 1024];
-    let asked = questions::ask(store, work, &mut seen);
-    match asked {
-        Admission::Refused(refusal) => Outcome::Refused(refusal),
-        Admission::Fit(_) => {
-            let terms = Terms {
-                waiting: WAITING,
-                marked: true,
-            };
-            let outcome = clear_fit(store, work, &seen, path, terms);
-            questions::zero_area(outcome, work, store.len() / image::NODE_SIZE);
-            outcome
-        }
-    }
+    questions::ask(store, work, &mut seen)?;
+    clear_fit(store, work, &seen, path, ALONE)?;
+    questions::zero_area(work, store.len() / image::NODE_SIZE);
+    Ok(())
 }

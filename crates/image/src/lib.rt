@@ -1,7 +1,13 @@
-// The numbers of the format, the answers of the store's calls as types, and the place of a listing. specs/Answers.antt gives each case of an answer
+// The numbers of the format, the refusal that is the error of the store's calls, and the place of a listing. specs/Answers.antt gives each refusal
 // its number; the other files of specs/ hold the paper's definitions, which the contracts of the crates above cite. Relies on no other crate.
 
 #![tactic(auto)]
+
+ghost use Rattle.std.specs.Prelude.{◌≡◌};
+ghost use Rattle.image.specs.Answers.{refusal_number};
+
+use std::error::Error;
+use std::fmt;
 
 // The numbers of the image, as document 01 gives them, and the kinds of a batch, which are ours. Code cites them by name; the definitions of
 // specs/ have their own, and a proof that meets them holds only while the two agree.
@@ -65,59 +71,60 @@ pub const FLUSH: usize = 0x0042;
 
 pub const HEAL: usize = 0x0043;
 
-// Which question got a no. The comment is the question; specs/Answers.antt has its number.
-#[derive(Clone, Copy)]
+// Which question got a no, as the error of every call. The comment is the question; specs/Answers.antt has its number.
+#[derive(Clone, Copy, Debug, PartialEq, Eq)]
 pub enum Refusal {
     // Is each store a whole number of nodes, 32 to 1,024, and any work area long enough?
-    Length,
+    Length = 1,
     // Is each image sound?
-    Unsound,
+    Unsound = 2,
     // Is each path well formed?
-    Malformed,
+    Malformed = 3,
     // Is the value at most 48 bytes?
-    LongValue,
+    LongValue = 4,
     // Is the buffer long enough?
-    ShortBuffer,
+    ShortBuffer = 5,
     // Is the number that of a reachable interior node?
-    NotInterior,
+    NotInterior = 6,
     // Is neither path a proper beginning of the other?
-    Nested,
+    Nested = 7,
     // Is there such a path?
-    Absent,
+    Absent = 8,
     // Is every present path still well formed after the move?
-    BecomesMalformed,
+    BecomesMalformed = 9,
     // Is the path present, or are fewer than n paths?
-    Full,
+    Full = 10,
 }
 
-// The answer of a call that changes the store.
-#[derive(Clone, Copy)]
-pub enum Outcome {
-    Done,
-    Refused(Refusal),
+// The number of the question, as a batch and the calls for C answer it.
+impl From<Refusal> for u32 {
+    ghost from_gives = { λ refusal number. number ≡ refusal_number refusal };
+
+    #[tactic(auto, unfolding(crate::specs::Answers::refusal_number))]
+    fn from(refusal: Refusal) -> u32 {
+        refusal as u32
+    }
 }
 
-// The answer of get and next: how many bytes stand at the front of the buffer.
-#[derive(Clone, Copy)]
-pub enum Found {
-    Length(usize),
-    Refused(Refusal),
+// The question that got a no, in words.
+impl fmt::Display for Refusal {
+    fn fmt<W: fmt::Write>(&self, f: &mut fmt::Formatter<W>) -> fmt::Result {
+        f.write_str(match self {
+            Refusal::Length => "a store is no whole number of nodes, or the work area is short",
+            Refusal::Unsound => "an image is not sound",
+            Refusal::Malformed => "a path is not well formed",
+            Refusal::LongValue => "the value is longer than 48 bytes",
+            Refusal::ShortBuffer => "the buffer is short",
+            Refusal::NotInterior => "the number is of no reachable interior node",
+            Refusal::Nested => "one path is a proper beginning of the other",
+            Refusal::Absent => "there is no such path",
+            Refusal::BecomesMalformed => "a path would not be well formed after the move",
+            Refusal::Full => "the path is absent, and there are as many paths as nodes",
+        })
+    }
 }
 
-// The answer of same.
-#[derive(Clone, Copy)]
-pub enum Sameness {
-    Same,
-    Different,
-    Refused(Refusal),
-}
-
-// The answer of check: a sound image, with how many paths it holds.
-#[derive(Clone, Copy)]
-pub enum Verdict {
-    Sound(usize),
-    Refused(Refusal),
-}
+impl Error for Refusal {}
 
 // The place of a listing: the first `len` bytes are the last path given. With `len` 0 none has been given yet.
 #[derive(Clone, Copy)]

@@ -1,16 +1,14 @@
 -- What an answer of next says of a step: an accepted one moves the place on, a refused one leaves it. One law for each.
 -- Relies on: what a contract tells at once (demands), query's laws of its questions and of a filled buffer, successor's of the path that next finds.
-use Rattle.std.specs.Prelude.{ℕ, zero, suc, ◌-◌, ◌≤◌, ◌<◌, ◌≡◌, refl, List, [], ◌∷◌, length, take, drop}
+use Rattle.std.specs.Prelude.{ℕ, zero, suc, ◌-◌, ◌≤◌, ◌<◌, ◌≡◌, refl, List, [], ◌∷◌, length, take, drop, Result, Ok, Err}
 use Rattle.image.specs.Prelude.{sym, ap, subst, ◌∙◌, some, arith, le-leb, lt-leb}
 use Rattle.image.specs.Bytes.{before}
 use Rattle.image.specs.Table.{Row, least_after}
 use Rattle.image.specs.Sound.{table_of}
 use Rattle.image.specs.Calls.{asks, next, Answer, number_of, found_by}
 use Rattle.image.specs.Contract.{first_no_on, Meets}
-use Rattle.image.specs.Answers.{refusal_number, outcome_number, found_answer}
+use Rattle.image.specs.Answers.{refusal_number, found_answer}
 use Rattle.image.specs.declared.Refusal.{Refusal}
-use Rattle.image.specs.declared.Outcome.{Outcome}
-use Rattle.image.specs.declared.Found.{Found}
 use Rattle.demands.specs.Consequences.{number_is, Answered, query-answered}
 use Rattle.query.specs.Asked.{number-by-length}
 use Rattle.query.specs.Front.{Front, front-filled}
@@ -40,11 +38,11 @@ module _ (s below : List ℕ) (p : Listing) (buffer : List ℕ) (a : Answer) whe
       subst (λ (q : List ℕ). Meets s (asks (next below q) buffer) a s []) (ap (λ (k : ℕ). take k p.last) z ∙ sym (last_fits p h)) m
 
 -- the number of each of next's answers
-length-number : (n : ℕ) (buffer : List ℕ) → number_of (found_answer (Found.Length n) buffer) ≡ 0
+length-number : (n : ℕ) (buffer : List ℕ) → number_of (found_answer (Ok n) buffer) ≡ 0
 unfolding found_answer number_of
 length-number n buffer = refl
 
-refused-number : (why : Refusal) (buffer : List ℕ) → number_of (found_answer (Found.Refused why) buffer) ≡ refusal_number why
+refused-number : (why : Refusal) (buffer : List ℕ) → number_of (found_answer (Err why) buffer) ≡ refusal_number why
 unfolding found_answer number_of
 refused-number why buffer = refl
 
@@ -54,21 +52,21 @@ path-kept zero below q t h = absurd (h refl)
 path-kept (suc k) below q t h = refl
 
 -- next was lent the place's own bytes
-module _ (s below : List ℕ) (p : Listing) (long : length p.last ≡ 64) (r : Found) (buffer' : List ℕ)
+module _ (s below : List ℕ) (p : Listing) (long : length p.last ≡ 64) (r : Result ℕ Refusal) (buffer' : List ℕ)
     (m : Meets s (asks (next below (last_path p)) p.last) (found_answer r buffer') s []) where
   number-told : number_of (found_answer r buffer') ≡ step_no s below p
   unfolding step_no blank
   number-told = number_is m ∙ number-by-length s (next below (last_path p)) p.last blank long
 
-  answered : (n : ℕ) → r ≡ Found.Length n → Answered s (next below (last_path p)) p.last n buffer'
+  answered : (n : ℕ) → r ≡ Ok n → Answered s (next below (last_path p)) p.last n buffer'
   unfolding found_answer
   answered n e = query-answered (rw e at m)
 
   -- next found a path: the place moves on to it
-  pub moves-on : (n : ℕ) → r ≡ Found.Length n → Steps s below p (outcome_number Outcome.Done) (record { last = buffer'; len = n })
-  unfolding outcome_number path_at found_by
+  pub moves-on : (n : ℕ) → r ≡ Ok n → Steps s below p 0 (record { last = buffer'; len = n })
+  unfolding path_at found_by
   moves-on n e =
-      let number : 0 ≡ step_no s below p = sym (length-number n buffer') ∙ ap (λ (x : Found). number_of (found_answer x buffer')) (sym e) ∙ number-told in
+      let number : 0 ≡ step_no s below p = sym (length-number n buffer') ∙ ap (λ (x : Result ℕ Refusal). number_of (found_answer x buffer')) (sym e) ∙ number-told in
       let no-no : first_no_on s (asks (next below (last_path p)) p.last) ≡ 0 = sym (number_is m) ∙ number-told ∙ sym number in
       let a : Answered s (next below (last_path p)) p.last n buffer' = answered n e in
       let f : Front a.bytes p.last n buffer' = front-filled a.bytes p.last n buffer' a.len_is a.out_is in
@@ -85,10 +83,9 @@ module _ (s below : List ℕ) (p : Listing) (long : length p.last ≡ 64) (r : F
       }
 
   -- next refused: the place stays
-  pub stays_put : (why : Refusal) → r ≡ Found.Refused why → Steps s below p (outcome_number (Outcome.Refused why)) p
-  unfolding outcome_number
+  pub stays_put : (why : Refusal) → r ≡ Err why → Steps s below p (refusal_number why) p
   stays_put why e =
-      let number : refusal_number why ≡ step_no s below p = sym (refused-number why buffer') ∙ ap (λ (x : Found). number_of (found_answer x buffer')) (sym e) ∙ number-told in
+      let number : refusal_number why ≡ step_no s below p = sym (refused-number why buffer') ∙ ap (λ (x : Result ℕ Refusal). number_of (found_answer x buffer')) (sym e) ∙ number-told in
       let some-no : step_no s below p ≡ 0 → ⊥ = λ h. omega (arith, refusal-some why, number ∙ h) in
       record {
         answer = number;

@@ -3,20 +3,13 @@
 
 #![tactic(auto)]
 
-ghost use Rattle.std.specs.Prelude.{◌≡◌, []};
+ghost use Rattle.std.specs.Prelude.{◌≡◌, [], MatchResult};
 ghost use Rattle.image.specs.Calls.{asks, next};
 ghost use Rattle.image.specs.Contract.{Meets};
-ghost use Rattle.image.specs.Answers.{found_answer, outcome_number};
+ghost use Rattle.image.specs.Answers.{refusal_number, found_answer, outcome_number};
 ghost use Rattle.image.specs.Listing.{last_path, Steps};
 
-use image::{Found, Listing, Outcome};
-
-// What a step answers, with the place after it.
-#[derive(Clone, Copy)]
-pub struct Advanced {
-    pub outcome: Outcome,
-    pub place: Listing,
-}
+use image::{Listing, Refusal};
 
 // A place before the first step.
 pub fn start() -> Listing
@@ -29,7 +22,7 @@ pub fn start() -> Listing
 }
 
 // Next, with the place's path as its second. A length over 64 is of no path: it gets next's answers to one that is malformed.
-fn next_after(store: &[u8], below: &[u8], place: Listing, path: &mut [u8]) -> Found
+fn next_after(store: &[u8], below: &[u8], place: Listing, path: &mut [u8]) -> Result<usize, Refusal>
     ensures { Meets store.now (asks (next below.now (last_path place)) path.old) (found_answer result path.new) store.now [] }
 {
     let len = place.len;
@@ -41,29 +34,20 @@ fn next_after(store: &[u8], below: &[u8], place: Listing, path: &mut [u8]) -> Fo
     query::next(store, below, &last[0..len], path)
 }
 
-// A step with the place by value: the least path below the first that is greater than the place's, or a refusal and the same place.
-pub fn advance(store: &[u8], below: &[u8], place: Listing) -> Advanced
-    ensures { Steps store.now below.now place (outcome_number result.outcome) result.place }
+// A step with the place by value: the least path below the first that is greater than the place's, or a refusal, at which the place stays.
+pub fn advance(store: &[u8], below: &[u8], place: Listing) -> Result<Listing, Refusal>
+    ensures { MatchResult result (λ to. Steps store.now below.now place 0 to) (λ why. Steps store.now below.now place (refusal_number why) place) }
 {
     let mut path = place.last; // what stands behind the path found stays
-    let found = next_after(store, below, place, &mut path);
-    match found {
-        Found::Length(len) => Advanced {
-            outcome: Outcome::Done,
-            place: Listing { last: path, len },
-        },
-        Found::Refused(why) => Advanced {
-            outcome: Outcome::Refused(why),
-            place,
-        },
-    }
+    let len = next_after(store, below, place, &mut path)?;
+    Ok(Listing { last: path, len })
 }
 
 // A step with the place lent.
-pub fn step(store: &[u8], below: &[u8], place: &mut Listing) -> Outcome
+#[tactic(auto, unfolding(image::specs::Answers::outcome_number))]
+pub fn step(store: &[u8], below: &[u8], place: &mut Listing) -> Result<(), Refusal>
     ensures { Steps store.now below.now place.old (outcome_number result) place.new }
 {
-    let a = advance(store, below, *place);
-    *place = a.place;
-    a.outcome
+    *place = advance(store, below, *place)?;
+    Ok(())
 }

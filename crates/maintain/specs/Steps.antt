@@ -1,6 +1,6 @@
 -- The steps of settle, tidy, flush and heal: one law for each way out of the code.
 -- Relies on questions (Passed), and on questions' Callers (the contract from what was done).
-use Rattle.std.specs.Prelude.{ℕ, suc, ◌*◌, ◌/◌, ◌≤◌, ◌≡◌, refl, List, [], ◌∷◌, ◌++◌, Bool, true, false, ◌&&◌, ◌||◌, not, cond, length, drop, leb, eqb}
+use Rattle.std.specs.Prelude.{ℕ, suc, ◌*◌, ◌/◌, ◌≤◌, ◌≡◌, refl, List, [], ◌∷◌, ◌++◌, Bool, true, false, ◌&&◌, ◌||◌, not, cond, length, drop, leb, eqb, Ok, Err}
 use Rattle.image.specs.Prelude.{sym, ap, subst, ◌∙◌, false≢true, true≢false, Option, none, some, arith, eqb-true}
 use Rattle.image.specs.Entry.{Message}
 use Rattle.image.specs.Image.{nodes_of, whole_nodes}
@@ -10,7 +10,6 @@ use Rattle.image.specs.Calls.{acts, settle, tidy, keeps, Upkeep, flush, heal, wo
 use Rattle.image.specs.Contract.{is_interior, node_questions, upkeep_rule, Besides, Meets}
 use Rattle.image.specs.Answers.{refusal_number, outcome_answer}
 use Rattle.image.specs.declared.Refusal.{Refusal}
-use Rattle.image.specs.declared.Outcome.{Outcome}
 use Rattle.octets.specs.Order.{and_left, and_right}
 use Rattle.laws.specs.Rising.{both}
 use Rattle.laws.specs.Frame.{or_right}
@@ -37,17 +36,17 @@ rebuilt false s s' w w' d r = r
 
 -- SETTLE AND TIDY
 module _ (s s' w w' : List ℕ) (f : Passed s w) where
-  settle-stays : settled s ≡ true → Stayed s s' w w' → Meets s (acts settle w) (outcome_answer Outcome.Done) s' w'
+  settle-stays : settled s ≡ true → Stayed s s' w w' → Meets s (acts settle w) (outcome_answer (Ok tt)) s' w'
   unfolding Besides table_after
   settle-stays e l =
       act-meets s s' w' to_act (plain-number s s' w w' f.whole f.long f.is_sound settle plain-settle) (ap sound l.same ∙ f.is_sound)
       (ap table_of l.same ∙ sym (plain-settle.same_table (table_of s))) (ap length l.same) l.work (ap settled l.same ∙ e)
 
-  pub settled-done : (done : Bool) → done ≡ settled s → Upkept done s s' w w' → Meets s (acts settle w) (outcome_answer Outcome.Done) s' w'
+  pub settled-done : (done : Bool) → done ≡ settled s → Upkept done s s' w w' → Meets s (acts settle w) (outcome_answer (Ok tt)) s' w'
   settled-done true e l = settle-stays (sym e) (unfold Upkept in l)
   settled-done false e r = settle-meets s s' w w' f.whole f.long f.is_sound (unfold Upkept in r)
 
-  pub tidied-done : Upkept false s s' w w' → Meets s (acts tidy w) (outcome_answer Outcome.Done) s' w'
+  pub tidied-done : Upkept false s s' w w' → Meets s (acts tidy w) (outcome_answer (Ok tt)) s' w'
   unfolding Upkept
   tidied-done r = tidy-meets s s' w w' f.whole f.long f.is_sound r
 
@@ -115,11 +114,11 @@ module _ (u : Upkeep) (s w : List ℕ) (f : Passed s w) (node : ℕ) (b : Bool) 
   unfolding later_no node_questions questions
   later_is = refl
 
-  pub not-interior : b ≡ false → Meets s (keeps u node w) (outcome_answer (Outcome.Refused Refusal.NotInterior)) s w
+  pub not-interior : b ≡ false → Meets s (keeps u node w) (outcome_answer (Err Refusal.NotInterior)) s w
   unfolding node_questions first_no refusal_number
   not-interior e = act-refused s Refusal.NotInterior to_keep (later-number s to_keep f.whole f.long f.is_sound ∙ later_is ∙ rw (sym b-is ∙ e) refl)
 
-  pub upheld-done : b ≡ true → (s' w' : List ℕ) → Upheld u node s s' w w' → Meets s (keeps u node w) (outcome_answer Outcome.Done) s' w'
+  pub upheld-done : b ≡ true → (s' w' : List ℕ) → Upheld u node s s' w w' → Meets s (keeps u node w) (outcome_answer (Ok tt)) s' w'
   unfolding node_questions first_no table_after Besides
   upheld-done e s' w' r =
       act-meets s s' w' to_keep (later-number s to_keep f.whole f.long f.is_sound ∙ later_is ∙ rw (sym b-is ∙ e) refl)

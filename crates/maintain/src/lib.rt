@@ -15,9 +15,8 @@ ghost use Rattle.tree_check.specs.Whole.{Marks};
 ghost use Rattle.questions.specs.Acted.{Passed};
 ghost use Rattle.maintain.specs.Upkept.{Upkept, Upheld};
 
-use image::{Outcome, Refusal};
+use image::Refusal;
 use push::Pushed;
-use questions::Admission;
 
 // Ends an accepted call. Where the store already is as the call asks, only the work area is cleared; else the store is rebuilt.
 fn rebuild_unless(done: bool, store: &mut [u8], work: &mut [u8])
@@ -33,45 +32,39 @@ fn rebuild_unless(done: bool, store: &mut [u8], work: &mut [u8])
 }
 
 // settle, on a store and a work area that are fit; `done` tells whether no message waits.
-pub fn settle_fit(store: &mut [u8], work: &mut [u8], done: bool) -> Outcome
+pub fn settle_fit(store: &mut [u8], work: &mut [u8], done: bool) -> Result<(), Refusal>
     requires { Passed store.old work.old × (done ≡ settled store.old) }
     ensures { Meets store.old (acts settle work.old) (outcome_answer result) store.new work.new }
 {
     rebuild_unless(done, store, work);
-    Outcome::Done
+    Ok(())
 }
 
 // Leaves no message in any node; where none waits, the store stays as it is.
-pub fn settle(store: &mut [u8], work: &mut [u8]) -> Outcome
+pub fn settle(store: &mut [u8], work: &mut [u8]) -> Result<(), Refusal>
     ensures { Meets store.old (acts settle work.old) (outcome_answer result) store.new work.new }
 {
     let mut seen = [0u8; 1024];
-    let ready = questions::ask(store, work, &mut seen);
-    match ready {
-        Admission::Refused(refusal) => Outcome::Refused(refusal),
-        Admission::Fit(tally) => settle_fit(store, work, tally.messages == 0),
-    }
+    let tally = questions::ask(store, work, &mut seen)?;
+    settle_fit(store, work, tally.messages == 0)
 }
 
 // tidy, on a store and a work area that are fit.
-pub fn tidy_fit(store: &mut [u8], work: &mut [u8]) -> Outcome
+pub fn tidy_fit(store: &mut [u8], work: &mut [u8]) -> Result<(), Refusal>
     requires { Passed store.old work.old }
     ensures { Meets store.old (acts tidy work.old) (outcome_answer result) store.new work.new }
 {
     rebuild_unless(false, store, work);
-    Outcome::Done
+    Ok(())
 }
 
 // Leaves no message in any node, and at most a quarter of the nodes in use.
-pub fn tidy(store: &mut [u8], work: &mut [u8]) -> Outcome
+pub fn tidy(store: &mut [u8], work: &mut [u8]) -> Result<(), Refusal>
     ensures { Meets store.old (acts tidy work.old) (outcome_answer result) store.new work.new }
 {
     let mut seen = [0u8; 1024];
-    let ready = questions::ask(store, work, &mut seen);
-    match ready {
-        Admission::Refused(refusal) => Outcome::Refused(refusal),
-        Admission::Fit(_) => tidy_fit(store, work),
-    }
+    questions::ask(store, work, &mut seen)?;
+    tidy_fit(store, work)
 }
 
 // Question 6: whether the number is that of a reachable interior node. `seen` has the marks of the nodes in use.
@@ -102,27 +95,29 @@ fn act_flush(store: &mut [u8], work: &mut [u8], node: usize)
 }
 
 // flush, on a store and a work area that are fit; `seen` has the marks of the nodes in use.
-pub fn flush_fit(store: &mut [u8], work: &mut [u8], seen: &[u8; 1024], node: usize) -> Outcome
+pub fn flush_fit(
+    store: &mut [u8],
+    work: &mut [u8],
+    seen: &[u8; 1024],
+    node: usize,
+) -> Result<(), Refusal>
     requires { Passed store.old work.old × Marks store.old seen.now }
     ensures { Meets store.old (keeps flush node work.old) (outcome_answer result) store.new work.new }
 {
     if !is_interior(store, seen, node) {
-        return Outcome::Refused(Refusal::NotInterior);
+        return Err(Refusal::NotInterior);
     }
     act_flush(store, work, node);
-    Outcome::Done
+    Ok(())
 }
 
 // Leaves no message in the nodes of this node's level that own any of what it owned.
-pub fn flush(store: &mut [u8], work: &mut [u8], node: usize) -> Outcome
+pub fn flush(store: &mut [u8], work: &mut [u8], node: usize) -> Result<(), Refusal>
     ensures { Meets store.old (keeps flush node work.old) (outcome_answer result) store.new work.new }
 {
     let mut seen = [0u8; 1024];
-    let ready = questions::ask(store, work, &mut seen);
-    match ready {
-        Admission::Refused(refusal) => Outcome::Refused(refusal),
-        Admission::Fit(_) => flush_fit(store, work, &seen, node),
-    }
+    questions::ask(store, work, &mut seen)?;
+    flush_fit(store, work, &seen, node)
 }
 
 // The act of a heal: the children of a node are joined where two neighbours fit in one node.
@@ -135,25 +130,27 @@ fn act_heal(store: &mut [u8], work: &mut [u8], node: usize)
 }
 
 // heal, on a store and a work area that are fit; `seen` has the marks of the nodes in use.
-pub fn heal_fit(store: &mut [u8], work: &mut [u8], seen: &[u8; 1024], node: usize) -> Outcome
+pub fn heal_fit(
+    store: &mut [u8],
+    work: &mut [u8],
+    seen: &[u8; 1024],
+    node: usize,
+) -> Result<(), Refusal>
     requires { Passed store.old work.old × Marks store.old seen.now }
     ensures { Meets store.old (keeps heal node work.old) (outcome_answer result) store.new work.new }
 {
     if !is_interior(store, seen, node) {
-        return Outcome::Refused(Refusal::NotInterior);
+        return Err(Refusal::NotInterior);
     }
     act_heal(store, work, node);
-    Outcome::Done
+    Ok(())
 }
 
 // Leaves the node with its range, no node with a message more, and no two neighbouring children of it that would fit in one node.
-pub fn heal(store: &mut [u8], work: &mut [u8], node: usize) -> Outcome
+pub fn heal(store: &mut [u8], work: &mut [u8], node: usize) -> Result<(), Refusal>
     ensures { Meets store.old (keeps heal node work.old) (outcome_answer result) store.new work.new }
 {
     let mut seen = [0u8; 1024];
-    let ready = questions::ask(store, work, &mut seen);
-    match ready {
-        Admission::Refused(refusal) => Outcome::Refused(refusal),
-        Admission::Fit(_) => heal_fit(store, work, &seen, node),
-    }
+    questions::ask(store, work, &mut seen)?;
+    heal_fit(store, work, &seen, node)
 }

@@ -1,5 +1,5 @@
 -- What make and its writer leave: the writer's two nodes, and make's two ways out, meet their contracts. Relies on Emptied.
-use Rattle.std.specs.Prelude.{ℕ, suc, ◌/◌, ◌≡◌, refl, List, [], Bool, true, false, length}
+use Rattle.std.specs.Prelude.{ℕ, suc, ◌/◌, ◌≡◌, refl, List, [], Bool, true, false, length, Ok, Err}
 use Rattle.image.specs.Prelude.{sym, ap, subst, ◌∙◌, arith}
 use Rattle.image.specs.Image.{whole_nodes}
 use Rattle.image.specs.Calls.{first_no}
@@ -7,7 +7,6 @@ use Rattle.image.specs.Contract.{make_no, Made, MakeMeets}
 use Rattle.laws.specs.Page.{page, head_page}
 use Rattle.laws.specs.WriteNode.{write_node}
 use Rattle.image.specs.Answers.{outcome_number, refusal_number}
-use Rattle.image.specs.declared.Outcome.{Outcome}
 use Rattle.image.specs.declared.Refusal.{Refusal}
 use Rattle.make.specs.Emptied.{emptied, emptied-length, emptied-made}
 
@@ -16,7 +15,7 @@ unfolding emptied
 writes-empty s s₁ s₂ e f = f ∙ ap (λ x. write_node x 1 (page 1 1 [])) e
 
 -- the two ways out
-pub make-refused : (s : List ℕ) (b : Bool) → b ≡ whole_nodes (length s) → b ≡ false → MakeMeets s (outcome_number (Outcome.Refused Refusal.Length)) s
+pub make-refused : (s : List ℕ) (b : Bool) → b ≡ whole_nodes (length s) → b ≡ false → MakeMeets s (outcome_number (Err Refusal.Length)) s
 unfolding make_no first_no outcome_number refusal_number
 make-refused s b e f =
     let no : make_no (length s) ≡ 1 = rw (sym e ∙ f) refl in
@@ -24,7 +23,7 @@ make-refused s b e f =
 
 -- s₀ is the store when all its bytes are zero
 pub make-done : (s s₀ s' : List ℕ) (b : Bool) → b ≡ whole_nodes (length s) → b ≡ true → length s₀ ≡ length s → s' ≡ emptied s₀
-    → MakeMeets s (outcome_number Outcome.Done) s'
+    → MakeMeets s (outcome_number (Ok tt)) s'
 unfolding make_no first_no outcome_number
 make-done s s₀ s' b e f z g =
     let yes : make_no (length s) ≡ 0 = rw (sym e ∙ f) refl in

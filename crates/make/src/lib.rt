@@ -9,7 +9,7 @@ ghost use Rattle.image.specs.Answers.{outcome_number};
 ghost use Rattle.image.specs.Contract.{MakeMeets};
 ghost use Rattle.make.specs.Emptied.{emptied};
 
-use image::{Outcome, Refusal};
+use image::Refusal;
 
 // Node 0, and a leaf with no pairs as the root. All other nodes are free, and keep their bytes.
 pub fn write_empty(store: &mut [u8])
@@ -20,14 +20,15 @@ pub fn write_empty(store: &mut [u8])
     node::writer::write_empty_leaf(store, 1);
 }
 
-pub fn make(store: &mut [u8]) -> Outcome
+// The two over zeros, where the store is a whole number of nodes.
+pub fn make(store: &mut [u8]) -> Result<(), Refusal>
     ensures { MakeMeets store.old (outcome_number result) store.new }
 {
     let len = store.len();
     if !node::whole_nodes(len) {
-        return Outcome::Refused(Refusal::Length);
+        return Err(Refusal::Length);
     }
     octets::fill_at(store, 0, len, 0);
     write_empty(store);
-    Outcome::Done
+    Ok(())
 }

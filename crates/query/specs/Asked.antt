@@ -1,15 +1,15 @@
 -- get and next, question by question: what each way out of the code answers is what the contract says. One law for both, over the query.
-use Rattle.std.specs.Prelude.{ℕ, zero, suc, ◌+◌, ◌<◌, ◌≤◌, ◌≡◌, refl, List, [], ◌∷◌, Bool, true, false, ◌&&◌, length, leb}
+use Rattle.std.specs.Prelude.{ℕ, zero, suc, ◌+◌, ◌<◌, ◌≤◌, ◌≡◌, refl, List, [], ◌∷◌, Bool, true, false, ◌&&◌, length, leb, Result, Ok, Err}
 use Rattle.image.specs.Prelude.{sym, ap₂, ◌∙◌, and-true, none, some, arith, le-leb, lt-leb}
 use Rattle.image.specs.Path.{well_formed, path_or_empty, value_limit, path_limit}
 use Rattle.image.specs.Table.{Row, is_some}
 use Rattle.image.specs.Image.{nodes_of, whole_nodes}
 use Rattle.image.specs.Sound.{sound, table_of}
 use Rattle.image.specs.Calls.{asks, Query, get, next, Answer, filled, ask, first_no, work_long, questions, query_questions, found_by, fill, accepted, refused, answer_at, table_at, table_after}
-use Rattle.image.specs.Contract.{node_questions, first_no_on, Besides, work_at, Meets}
-use Rattle.image.specs.Answers.{refusal_number, found_answer}
+use Rattle.image.specs.Contract.{node_questions, first_no_on, Besides, work_at, Meets, check_no}
+use Rattle.image.specs.Answers.{refusal_number, outcome_number, found_answer}
 use Rattle.image.specs.declared.Refusal.{Refusal}
-use Rattle.image.specs.declared.Found.{Found}
+use Rattle.laws.specs.Refusals.{refusal-some}
 use Rattle.octets.specs.Put.{put}
 
 -- question 3 of a query: its paths are well formed; next's may be empty
@@ -70,58 +70,59 @@ answer-meets s q buffer a e =
         let z : ◌≡◌ {A = ℕ} 1 0 = sym (number_is s q buffer ∙ rw e (unfold first_no in refl)) ∙ h in absurd (omega arith)
 
 refusal-answer : (s : List ℕ) (q : Query) (buffer : List ℕ) (r : Refusal) (k : ℕ) → refusal_number r ≡ suc k → first_no_on s (asks q buffer) ≡ suc k
-    → Meets s (asks q buffer) (found_answer (Found.Refused r) buffer) s []
+    → Meets s (asks q buffer) (found_answer (Err r) buffer) s []
 unfolding found_answer answer_at refused
 refusal-answer s q buffer r k e f = answer-meets s q buffer (filled (refusal_number r) 0 buffer) (rw (e, f) refl)
 
 module _ (s : List ℕ) (q : Query) (buffer : List ℕ) where
-  pub ragged-store : (x : Bool) → x ≡ whole_nodes (length s) → x ≡ false → Meets s (asks q buffer) (found_answer (Found.Refused Refusal.Length) buffer) s []
-  unfolding first_no refusal_number
-  ragged-store x e f = refusal-answer s q buffer Refusal.Length 0 refl (number_is s q buffer ∙ rw (sym e ∙ f) refl)
+  -- question 1 or 2 got a no
+  pub unfit-store : (r : Refusal) → outcome_number (Err r) ≡ check_no s → Meets s (asks q buffer) (found_answer (Err r) buffer) s []
+  unfolding check_no first_no outcome_number
+  unfit-store r e = by_questions (whole_nodes (length s)) refl (sound s) refl
+    where
+      by_questions : (w : Bool) → whole_nodes (length s) ≡ w → (b : Bool) → sound s ≡ b → Meets s (asks q buffer) (found_answer (Err r) buffer) s []
+      by_questions false f b g = refusal-answer s q buffer r 0 (e ∙ rw f refl) (number_is s q buffer ∙ rw f refl)
+      by_questions true f false g = refusal-answer s q buffer r 1 (e ∙ rw (f, g) refl) (number_is s q buffer ∙ rw (f, g) refl)
+      by_questions true f true g = let z : refusal_number r ≡ 0 = e ∙ rw (f, g) refl in absurd (omega (arith, refusal-some r))
 
-  module _ (x : Bool) (x-is : x ≡ whole_nodes (length s)) (x-yes : x ≡ true) where
-    pub unsound-store : (y : Bool) → y ≡ sound s → y ≡ false → Meets s (asks q buffer) (found_answer (Found.Refused Refusal.Unsound) buffer) s []
+  module _ (whole : whole_nodes (length s) ≡ true) (good : sound s ≡ true) where
+    pub malformed-path : (z : Bool) → z ≡ paths_fit q → z ≡ false → Meets s (asks q buffer) (found_answer (Err Refusal.Malformed) buffer) s []
     unfolding first_no refusal_number
-    unsound-store y e f = refusal-answer s q buffer Refusal.Unsound 1 refl (number_is s q buffer ∙ rw (sym x-is ∙ x-yes, sym e ∙ f) refl)
+    malformed-path z e f =
+        refusal-answer s q buffer Refusal.Malformed 2 refl (number_is s q buffer ∙ rw (whole, good, sym e ∙ f) refl)
 
-    module _ (y : Bool) (y-is : y ≡ sound s) (y-yes : y ≡ true) where
-      pub malformed-path : (z : Bool) → z ≡ paths_fit q → z ≡ false → Meets s (asks q buffer) (found_answer (Found.Refused Refusal.Malformed) buffer) s []
+    module _ (z : Bool) (z-is : z ≡ paths_fit q) (z-yes : z ≡ true) where
+      pub short-buffer : length buffer < buffer_limit q → Meets s (asks q buffer) (found_answer (Err Refusal.ShortBuffer) buffer) s []
       unfolding first_no refusal_number
-      malformed-path z e f =
-          refusal-answer s q buffer Refusal.Malformed 2 refl (number_is s q buffer ∙ rw (sym x-is ∙ x-yes, sym y-is ∙ y-yes, sym e ∙ f) refl)
+      short-buffer h =
+          refusal-answer s q buffer Refusal.ShortBuffer 4 refl
+          (number_is s q buffer ∙ rw (whole, good, sym z-is ∙ z-yes, lt-leb (buffer_limit q) (length buffer) h) refl)
 
-      module _ (z : Bool) (z-is : z ≡ paths_fit q) (z-yes : z ≡ true) where
-        pub short-buffer : length buffer < buffer_limit q → Meets s (asks q buffer) (found_answer (Found.Refused Refusal.ShortBuffer) buffer) s []
-        unfolding first_no refusal_number
-        short-buffer h =
-            refusal-answer s q buffer Refusal.ShortBuffer 4 refl
-            (number_is s q buffer ∙ rw (sym x-is ∙ x-yes, sym y-is ∙ y-yes, sym z-is ∙ z-yes, lt-leb (buffer_limit q) (length buffer) h) refl)
+      module _ (room : buffer_limit q ≤ length buffer) where
+        pub nothing-there : found_by q (table_of s) ≡ none → Meets s (asks q buffer) (found_answer (Err Refusal.Absent) buffer) s []
+        unfolding first_no refusal_number is_some
+        nothing-there e =
+            refusal-answer s q buffer Refusal.Absent 7 refl
+            (number_is s q buffer ∙ rw (whole, good, sym z-is ∙ z-yes, le-leb (buffer_limit q) (length buffer) room, e) refl)
 
-        module _ (room : buffer_limit q ≤ length buffer) where
-          pub nothing-there : found_by q (table_of s) ≡ none → Meets s (asks q buffer) (found_answer (Found.Refused Refusal.Absent) buffer) s []
-          unfolding first_no refusal_number is_some
-          nothing-there e =
-              refusal-answer s q buffer Refusal.Absent 7 refl
-              (number_is s q buffer ∙ rw (sym x-is ∙ x-yes, sym y-is ∙ y-yes, sym z-is ∙ z-yes, le-leb (buffer_limit q) (length buffer) room, e) refl)
-
-          -- the bytes v were found, and put at the front of the buffer
-          pub something-there : (v : List ℕ) (n : ℕ) (buffer' : List ℕ) → found_by q (table_of s) ≡ some v → n ≡ length v → buffer' ≡ put buffer 0 v
-              → Meets s (asks q buffer) (found_answer (Found.Length n) buffer') s []
-          unfolding first_no is_some found_answer answer_at accepted fill put
-          something-there v n buffer' e f g =
-              let no : first_no_on s (asks q buffer) ≡ 0 = number_is s q buffer ∙ rw (sym x-is ∙ x-yes, sym y-is ∙ y-yes, sym z-is ∙ z-yes, le-leb (buffer_limit q) (length buffer) room, e) refl in
-              let skip : 0 + length v ≡ length v = omega arith in
-              answer-meets s q buffer (filled 0 n buffer') (rw (no, e, f, g, skip) refl)
+        -- the bytes v were found, and put at the front of the buffer
+        pub something-there : (v : List ℕ) (n : ℕ) (buffer' : List ℕ) → found_by q (table_of s) ≡ some v → n ≡ length v → buffer' ≡ put buffer 0 v
+            → Meets s (asks q buffer) (found_answer (Ok n) buffer') s []
+        unfolding first_no is_some found_answer answer_at accepted fill put
+        something-there v n buffer' e f g =
+            let no : first_no_on s (asks q buffer) ≡ 0 = number_is s q buffer ∙ rw (whole, good, sym z-is ∙ z-yes, le-leb (buffer_limit q) (length buffer) room, e) refl in
+            let skip : 0 + length v ≡ length v = omega arith in
+            answer-meets s q buffer (filled 0 n buffer') (rw (no, e, f, g, skip) refl)
 
 -- how many bytes an answer says are at the front of the buffer: never more than a path has, so that the number fits any word
-unfoldable pub found_length : Found → ℕ
-found_length (Found.Length n) = n
-found_length (Found.Refused r) = 0
+unfoldable pub found_length : Result ℕ Refusal → ℕ
+found_length (Ok n) = n
+found_length (Err r) = 0
 
-pub refused-short : (r : Refusal) (most : ℕ) → found_length (Found.Refused r) ≤ most
+pub refused-short : (r : Refusal) (most : ℕ) → found_length (Err r) ≤ most
 unfolding found_length
 refused-short r most = omega arith
 
-pub found-short : (n most : ℕ) → n ≤ most → found_length (Found.Length n) ≤ most
+pub found-short : (n most : ℕ) → n ≤ most → found_length (Ok n) ≤ most
 unfolding found_length
 found-short n most h = h

@@ -1,7 +1,7 @@
 -- What the readers hand to get and next, in the words of the questions.
-use Rattle.std.specs.Prelude.{ℕ, ◌-◌, ◌<◌, ◌≤◌, ◌≡◌, refl, List, Bool, true, false, length, take, drop}
+use Rattle.std.specs.Prelude.{ℕ, ◌-◌, ◌<◌, ◌≤◌, ◌≡◌, refl, List, Bool, true, length, take, drop}
 use Rattle.image.specs.Prelude.{sym, ap, subst, ◌∙◌, none, some, arith, length-drop, length-take-le}
-use Rattle.image.specs.Path.{well_formed, path_or_empty, value_limit}
+use Rattle.image.specs.Path.{well_formed, value_limit}
 use Rattle.image.specs.Table.{find, least_after}
 use Rattle.image.specs.Sound.{sound, value_in, table_of}
 use Rattle.image.specs.Calls.{get, next, found_by}
@@ -55,15 +55,7 @@ pub value-absent : (s p : List ℕ) (r : Found) → sound s ≡ true → Finds s
 unfolding found_by found_in
 value-absent s p r ok f e = sym (means-table s ok p) ∙ sym f.meant ∙ ap (found_in s) e
 
--- questions 3 and 5 of a next
-pub next-bad : (p q : List ℕ) (x : Bool) → x ≡ path_or_empty p → x ≡ false → false ≡ paths_fit (next p q)
-unfolding paths_fit
-next-bad p q x e f = rw (sym e ∙ f)
-
-pub next-second : (p q : List ℕ) (x y : Bool) → x ≡ path_or_empty p → x ≡ true → y ≡ path_or_empty q → y ≡ paths_fit (next p q)
-unfolding paths_fit
-next-second p q x y e f g = rw (sym e ∙ f) g
-
+-- question 5 of a next
 pub next-short : (p q buffer : List ℕ) → length buffer < 64 → length buffer < buffer_limit (next p q)
 unfolding buffer_limit
 next-short p q buffer h = h

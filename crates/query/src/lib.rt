@@ -9,92 +9,99 @@ ghost use Rattle.image.specs.Path.{value_limit, path_limit};
 ghost use Rattle.image.specs.Image.{whole_nodes, most_nodes};
 ghost use Rattle.image.specs.Calls.{asks, get, next};
 ghost use Rattle.image.specs.Sound.{sound, table_of};
-ghost use Rattle.image.specs.Contract.{Meets, same_keys, SameMeets, CheckMeets};
-ghost use Rattle.image.specs.Answers.{found_answer, sameness_number, sameness_verdict, verdict_number, verdict_paths};
+ghost use Rattle.image.specs.Contract.{Meets, same_keys, SameMeets, check_no, CheckMeets};
+ghost use Rattle.image.specs.Answers.{outcome_number, found_answer, sameness_number, sameness_verdict, verdict_number, verdict_paths};
 ghost use Rattle.query.specs.Asked.{paths_fit, found_length};
 
-use image::{Found, Refusal, Sameness, Verdict};
+use image::Refusal;
+
+// Questions 1 and 2 of a call that is lent no work area.
+#[tactic(auto, unfolding(image::specs::Contract::check_no, image::specs::Calls::first_no, image::specs::Answers::outcome_number, image::specs::Answers::refusal_number))]
+fn judge_store(store: &[u8]) -> Result<(), Refusal>
+    ensures { outcome_number result ≡ check_no store.now }
+{
+    if !node::whole_nodes(store.len()) {
+        return Err(Refusal::Length); // question 1
+    }
+    if !soundness::is_sound(store) {
+        return Err(Refusal::Unsound); // question 2
+    }
+    Ok(())
+}
 
 // get, on a store that is fit.
-pub fn get_fit(store: &[u8], path: &[u8], buffer: &mut [u8]) -> Found
+pub fn get_fit(store: &[u8], path: &[u8], buffer: &mut [u8]) -> Result<usize, Refusal>
     requires { (whole_nodes (length store.now) ≡ true) × (sound store.now ≡ true) }
     ensures meets { Meets store.now (asks (get path.now) buffer.old) (found_answer result buffer.new) store.now [] }
     ensures short { found_length result ≤ value_limit }
 {
     if !path::is_path(path) {
-        return Found::Refused(Refusal::Malformed);
+        return Err(Refusal::Malformed);
     }
     if buffer.len() < image::VALUE_LIMIT {
-        return Found::Refused(Refusal::ShortBuffer);
+        return Err(Refusal::ShortBuffer);
     }
     let found = lookup::value_of(store, path);
     let node::search::Found::Value(value) = found else {
-        return Found::Refused(Refusal::Absent); // the path has no value
+        return Err(Refusal::Absent); // the path has no value
     };
     let start = value.start;
     let stop = value.stop;
     octets::copy_at(buffer, 0, &store[start..stop]);
-    Found::Length(stop - start)
+    Ok(stop - start)
 }
 
 // The value of a path, at the front of the buffer.
-pub fn get(store: &[u8], path: &[u8], buffer: &mut [u8]) -> Found
+pub fn get(store: &[u8], path: &[u8], buffer: &mut [u8]) -> Result<usize, Refusal>
     ensures meets { Meets store.now (asks (get path.now) buffer.old) (found_answer result buffer.new) store.now [] }
     ensures short { found_length result ≤ path_limit }
 {
-    if !node::whole_nodes(store.len()) {
-        return Found::Refused(Refusal::Length);
-    }
-    if !soundness::is_sound(store) {
-        return Found::Refused(Refusal::Unsound);
-    }
+    judge_store(store)?;
     get_fit(store, path, buffer)
 }
 
 // Whether next's paths are well formed; each may be empty.
+#[tactic(auto, unfolding(crate::specs::Asked::paths_fit))]
 fn paths_fit(path: &[u8], after: &[u8]) -> bool
     ensures { result ≡ paths_fit (next path.now after.now) }
 {
-    if !path::is_path_or_empty(path) {
-        return false;
-    }
-    path::is_path_or_empty(after)
+    path::is_path_or_empty(path) && path::is_path_or_empty(after)
 }
 
 // next, on a store that is fit.
-pub fn next_fit(store: &[u8], path: &[u8], after: &[u8], buffer: &mut [u8]) -> Found
+pub fn next_fit(
+    store: &[u8],
+    path: &[u8],
+    after: &[u8],
+    buffer: &mut [u8],
+) -> Result<usize, Refusal>
     requires { (whole_nodes (length store.now) ≡ true) × (sound store.now ≡ true) }
     ensures meets { Meets store.now (asks (next path.now after.now) buffer.old) (found_answer result buffer.new) store.now [] }
     ensures short { found_length result ≤ path_limit }
 {
     if !paths_fit(path, after) {
-        return Found::Refused(Refusal::Malformed);
+        return Err(Refusal::Malformed);
     }
     if buffer.len() < image::PATH_LIMIT {
-        return Found::Refused(Refusal::ShortBuffer);
+        return Err(Refusal::ShortBuffer);
     }
     let found = successor::next_path(store, path, after);
     let len = found.len;
     let absent = image::PATH_LIMIT < len;
     if absent {
-        return Found::Refused(Refusal::Absent);
+        return Err(Refusal::Absent);
     }
     let bytes = found.bytes;
     octets::copy_at(buffer, 0, &bytes[0..len]);
-    Found::Length(len)
+    Ok(len)
 }
 
 // The least path below the first and greater than the second, at the front of the buffer.
-pub fn next(store: &[u8], path: &[u8], after: &[u8], buffer: &mut [u8]) -> Found
+pub fn next(store: &[u8], path: &[u8], after: &[u8], buffer: &mut [u8]) -> Result<usize, Refusal>
     ensures meets { Meets store.now (asks (next path.now after.now) buffer.old) (found_answer result buffer.new) store.now [] }
     ensures short { found_length result ≤ path_limit }
 {
-    if !node::whole_nodes(store.len()) {
-        return Found::Refused(Refusal::Length);
-    }
-    if !soundness::is_sound(store) {
-        return Found::Refused(Refusal::Unsound);
-    }
+    judge_store(store)?;
     next_fit(store, path, after, buffer)
 }
 
@@ -112,38 +119,24 @@ fn same_paths(store: &[u8], other: &[u8]) -> bool
 }
 
 // Whether two stores hold the same paths.
-pub fn same(store: &[u8], other: &[u8]) -> Sameness
+#[tactic(auto, unfolding(image::specs::Contract::same_no, image::specs::Contract::same_at, image::specs::Calls::first_no, image::specs::Answers::sameness_number, image::specs::Answers::sameness_verdict, image::specs::Answers::refusal_number))]
+pub fn same(store: &[u8], other: &[u8]) -> Result<bool, Refusal>
     ensures { SameMeets store.now other.now (sameness_number result) (sameness_verdict result) }
 {
-    if !node::whole_nodes(store.len()) {
-        return Sameness::Refused(Refusal::Length);
+    if !(node::whole_nodes(store.len()) && node::whole_nodes(other.len())) {
+        return Err(Refusal::Length);
     }
-    if !node::whole_nodes(other.len()) {
-        return Sameness::Refused(Refusal::Length);
+    if !(soundness::is_sound(store) && soundness::is_sound(other)) {
+        return Err(Refusal::Unsound);
     }
-    if !soundness::is_sound(store) {
-        return Sameness::Refused(Refusal::Unsound);
-    }
-    if !soundness::is_sound(other) {
-        return Sameness::Refused(Refusal::Unsound);
-    }
-    if same_paths(store, other) {
-        return Sameness::Same;
-    }
-    Sameness::Different
+    Ok(same_paths(store, other))
 }
 
 // Whether a store is a sound image, and how many paths it holds.
-pub fn check(store: &[u8]) -> Verdict
+pub fn check(store: &[u8]) -> Result<usize, Refusal>
     ensures check_meets { CheckMeets store.now (verdict_number result) (verdict_paths result) }
     ensures few { verdict_paths result ≤ most_nodes }
 {
-    if !node::whole_nodes(store.len()) {
-        return Verdict::Refused(Refusal::Length);
-    }
-    if !soundness::is_sound(store) {
-        return Verdict::Refused(Refusal::Unsound);
-    }
-    let live = node::header::read_live(store);
-    Verdict::Sound(live)
+    judge_store(store)?;
+    Ok(node::header::read_live(store))
 }

@@ -1,7 +1,7 @@
 -- For the calls that are lent a work area (acts and upkeep): the contract Meets from what the code does. One law for an accepted call, one
 -- for a refused one, one for each answer of questions 1 and 2; then settle and tidy, which are a rebuild.
 -- Relies on the paper's definitions and on what a rebuild promises.
-use Rattle.std.specs.Prelude.{ℕ, zero, suc, ◌*◌, ◌<◌, ◌≤◌, ◌≡◌, refl, List, [], ◌++◌, true, false, ◌&&◌, length, leb}
+use Rattle.std.specs.Prelude.{ℕ, zero, suc, ◌*◌, ◌<◌, ◌≤◌, ◌≡◌, refl, List, [], ◌++◌, true, false, ◌&&◌, length, leb, Ok, Err}
 use Rattle.image.specs.Prelude.{sym, ap, ◌∙◌, arith, le-leb, lt-leb}
 use Rattle.image.specs.Table.{Row}
 use Rattle.image.specs.Image.{nodes_of, whole_nodes}
@@ -10,7 +10,6 @@ use Rattle.image.specs.Calls.{Call, acts, keeps, Act, settle, tidy, Upkeep, numb
 use Rattle.image.specs.Contract.{node_questions, first_no_on, Besides, work_at, Meets}
 use Rattle.image.specs.Answers.{refusal_number, outcome_number, outcome_answer}
 use Rattle.image.specs.declared.Refusal.{Refusal}
-use Rattle.image.specs.declared.Outcome.{Outcome}
 use Rattle.octets.specs.Order.{and-false}
 use Rattle.rebuild.specs.Rebuild.{Rebuilt, cleared}
 use Rattle.laws.specs.Refusals.{refusal-some}
@@ -21,7 +20,7 @@ pub data Lent : Call → List ℕ → Type 0 where
   to_keep : {u : Upkeep} {i : ℕ} {w : List ℕ} → Lent (keeps u i w) w
 
 -- A CALL OF WHICH THE FIRST NO IS KNOWN
-done-answer : {c : Call} {w : List ℕ} (t : List Row) → Lent c w → outcome_answer Outcome.Done ≡ answer_at 0 c t
+done-answer : {c : Call} {w : List ℕ} (t : List Row) → Lent c w → outcome_answer (Ok tt) ≡ answer_at 0 c t
 unfolding outcome_answer outcome_number answer_at accepted
 done-answer t to_act = refl
 done-answer t to_keep = refl
@@ -43,7 +42,7 @@ refused-work k n to_keep = refl
 
 -- an accepted call: a sound store of the same size with the right table, what the call keeps besides, and the work area cleared
 pub act-meets : {c : Call} {w : List ℕ} (s s' w' : List ℕ) → Lent c w → first_no_on s c ≡ 0 → sound s' ≡ true → table_of s' ≡ table_after c (table_of s)
-    → length s' ≡ length s → w' ≡ cleared (nodes_of (length s)) w → Besides c s s' → Meets s c (outcome_answer Outcome.Done) s' w'
+    → length s' ≡ length s → w' ≡ cleared (nodes_of (length s)) w → Besides c s s' → Meets s c (outcome_answer (Ok tt)) s' w'
 unfolding table_at
 act-meets {c} {w} s s' w' l accepts good table size work besides =
     record {
@@ -57,16 +56,16 @@ act-meets {c} {w} s s' w' l accepts good table size work besides =
     }
 
 -- a refused call: the store and the work area are as they were
-pub act-refused : {c : Call} {w : List ℕ} (s : List ℕ) (r : Refusal) → Lent c w → first_no_on s c ≡ refusal_number r → Meets s c (outcome_answer (Outcome.Refused r)) s w
+pub act-refused : {c : Call} {w : List ℕ} (s : List ℕ) (r : Refusal) → Lent c w → first_no_on s c ≡ refusal_number r → Meets s c (outcome_answer (Err r)) s w
 act-refused {c} {w} s r l refuses = by_number (refusal_number r) refl
   where
-    answered : (k : ℕ) → refusal_number r ≡ k → outcome_answer (Outcome.Refused r) ≡ number k
+    answered : (k : ℕ) → refusal_number r ≡ k → outcome_answer (Err r) ≡ number k
     answered k e = unfold outcome_answer outcome_number in ap (λ j. number j) e
 
     same_table : (k : ℕ) → table_of s ≡ table_at (suc k) c (table_of s)
     same_table k = unfold table_at in refl
 
-    by_number : (k : ℕ) → refusal_number r ≡ k → Meets s c (outcome_answer (Outcome.Refused r)) s w
+    by_number : (k : ℕ) → refusal_number r ≡ k → Meets s c (outcome_answer (Err r)) s w
     by_number zero e = absurd (let z = refusal-some r in omega arith)
     by_number (suc k) e =
         let f : first_no_on s c ≡ suc k = refuses ∙ e in
@@ -134,15 +133,15 @@ module _ (s s' w w' : List ℕ) (whole : whole_nodes (length s) ≡ true) (long 
   unfolding later_no node_questions questions first_no
   plain-number a p = later-number s to_act whole long good ∙ rw (p.unasked (nodes_of (length s)) (table_of s)) refl
 
-  pub plain-meets : (a : Act) → Plain a → Rebuilt s s' w w' → Besides (acts a w) s s' → Meets s (acts a w) (outcome_answer Outcome.Done) s' w'
+  pub plain-meets : (a : Act) → Plain a → Rebuilt s s' w w' → Besides (acts a w) s s' → Meets s (acts a w) (outcome_answer (Ok tt)) s' w'
   unfolding table_after
   plain-meets a p r besides =
       act-meets s s' w' to_act (plain-number a p) r.is_sound (r.table ∙ sym (p.same_table (table_of s))) r.size r.work besides
 
-  pub settle-meets : Rebuilt s s' w w' → Meets s (acts settle w) (outcome_answer Outcome.Done) s' w'
+  pub settle-meets : Rebuilt s s' w w' → Meets s (acts settle w) (outcome_answer (Ok tt)) s' w'
   unfolding Besides
   settle-meets r = plain-meets settle plain-settle r r.is_settled
 
-  pub tidy-meets : Rebuilt s s' w w' → Meets s (acts tidy w) (outcome_answer Outcome.Done) s' w'
+  pub tidy-meets : Rebuilt s s' w w' → Meets s (acts tidy w) (outcome_answer (Ok tt)) s' w'
   unfolding Besides
   tidy-meets r = plain-meets tidy plain-tidy r r.is_tidied

@@ -6,42 +6,34 @@
 
 ghost use Rattle.std.specs.Prelude.{◌≡◌, ◌*◌, ◌≤◌, length};
 ghost use Rattle.questions.specs.Asked.{Asked};
-ghost use Rattle.questions.specs.Acted.{area_after};
+ghost use Rattle.rebuild.specs.Rebuild.{cleared};
 
-use image::{Outcome, Refusal};
+use image::Refusal;
 use tree_check::{Checked, Tally};
 
-// Whether a call may go on to its later questions. Fit: what the check of the image has counted.
-#[derive(Clone, Copy)]
-pub enum Admission {
-    Fit(Tally),
-    Refused(Refusal),
-}
-
-// Asks both questions, in order. Where the answer is Fit, `seen` has 1 for each node that is reached and 0 for the others.
-pub fn ask(store: &[u8], work: &[u8], seen: &mut [u8; 1024]) -> Admission
+// Asks both questions, in order. Where both are a yes it answers what the check of the image has counted, and `seen` has 1 for each node that is
+// reached and 0 for the others.
+pub fn ask(store: &[u8], work: &[u8], seen: &mut [u8; 1024]) -> Result<Tally, Refusal>
     ensures { Asked store.now work.now seen.new result }
 {
     if !node::whole_nodes(store.len()) {
-        return Admission::Refused(Refusal::Length);
+        return Err(Refusal::Length);
     }
     if work.len() < image::WORK_PER_NODE * (store.len() / image::NODE_SIZE) {
-        return Admission::Refused(Refusal::Length);
+        return Err(Refusal::Length);
     }
     let c = soundness::judge(store, seen);
     let Checked::Sound(tally) = c else {
-        return Admission::Refused(Refusal::Unsound);
+        return Err(Refusal::Unsound);
     };
-    Admission::Fit(tally)
+    Ok(tally)
 }
 
-// The end of a call on a store of n nodes: an accepted one leaves its part of the work area zero.
-pub fn zero_area(outcome: Outcome, work: &mut [u8], n: usize)
+// The end of an accepted call on a store of n nodes: its part of the work area is left zero.
+#[tactic(auto, unfolding(laws::specs::Page::zeros_of))]
+pub fn zero_area(work: &mut [u8], n: usize)
     requires { (128 * n ≤ length work.old) × (n ≤ 1024) }
-    ensures { work.new ≡ area_after outcome n work.old }
+    ensures { work.new ≡ cleared n work.old }
 {
-    match outcome {
-        Outcome::Done => packed::clear_area(work, image::WORK_PER_NODE * n),
-        Outcome::Refused(_) => {}
-    }
+    packed::clear_area(work, image::WORK_PER_NODE * n);
 }

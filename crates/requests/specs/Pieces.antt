@@ -1,5 +1,6 @@
 -- What the places of a piece hold, and what its reader promises.
-use Rattle.std.specs.Prelude.{ℕ, ◌+◌, ◌<◌, ◌≤◌, ◌≡◌, List, ◌++◌, cond, length, drop, eqb}
+use Rattle.std.specs.Prelude.{ℕ, ◌+◌, ◌<◌, ◌≤◌, ◌≡◌, List, ◌++◌, cond, length, drop, eqb, Some, None}
+use Rattle.std.specs.Prelude as std
 use Rattle.image.specs.Prelude.{Option, none, some}
 use Rattle.image.specs.Path.{path_limit, value_limit}
 use Rattle.image.specs.Bytes.{u16_bytes}
@@ -26,10 +27,9 @@ unfoldable pub query_in : List ℕ → Query → Request
 query_in s (Query.Get p) = asking (calls.get (part s p))
 query_in s (Query.Next p q) = asking (calls.next (part s p) (part s q))
 
-unfoldable pub request_in : List ℕ → Piece → Option Request
-request_in s (Piece.Change c) = some (change_in s c)
-request_in s (Piece.Query q) = some (query_in s q)
-request_in s Piece.None = none
+unfoldable pub request_in : List ℕ → Piece → Request
+request_in s (Piece.Change c) = change_in s c
+request_in s (Piece.Query q) = query_in s q
 
 -- its places lie in n bytes
 unfoldable pub ChangeWithin : ℕ → Change → Type 0
@@ -49,12 +49,11 @@ QueryWithin n (Query.Next p q) = Within 0 n p × Within 0 n q
 unfoldable pub PieceWithin : ℕ → Piece → Type 0
 PieceWithin n (Piece.Change c) = ChangeWithin n c
 PieceWithin n (Piece.Query q) = QueryWithin n q
-PieceWithin n Piece.None = Unit {0}
 
--- the piece is what the definition reads
-pub record PieceIs (s : List ℕ) (o : Option Request) (r : Piece) : Type 0 where
-  pub reads : o ≡ request_in s r
-  pub within : PieceWithin (length s) r
+-- the piece, if there is one, is what the definition reads
+unfoldable pub PieceIs : List ℕ → Option Request → std.Option Piece → Type 0
+PieceIs s o None = o ≡ none
+PieceIs s o (Some p) = (o ≡ some (request_in s p)) × PieceWithin (length s) p
 
 -- the kinds without a path
 unfoldable pub upkeep_of : ℕ → List ℕ → Option Request
@@ -65,10 +64,16 @@ upkeep_of kind r =
     (cond (eqb kind 0x0043) (node_of calls.heal r) none)))
 
 -- the piece at a place, and behind it the later ones
-pub record Reads (s : List ℕ) (at : ℕ) (r : Reading) : Type 0 where
-  pub first : PieceIs s (first_request (drop at s)) r.piece
-  pub later : (q : Request) → request_in s r.piece ≡ some q → (behind (drop at s) ≡ drop r.end s) × (at < r.end)
+pub record ReadsPiece (s : List ℕ) (at : ℕ) (r : Reading) : Type 0 where
+  pub first : first_request (drop at s) ≡ some (request_in s r.piece)
+  pub within : PieceWithin (length s) r.piece
+  pub later : behind (drop at s) ≡ drop r.end s
+  pub moves : at < r.end
   pub high : r.end ≤ length s
+
+unfoldable pub Reads : List ℕ → ℕ → std.Option Reading → Type 0
+Reads s at None = first_request (drop at s) ≡ none
+Reads s at (Some r) = ReadsPiece s at r
 
 unfoldable pub query_most : Query → ℕ
 query_most (Query.Get p) = 4 + value_limit

@@ -1,4 +1,4 @@
-// The pieces of a batch: the request at a place of its bytes, told as places in them; an answer written as bytes; the numbers of answers.
+// The pieces of a batch: the request at a place of its bytes, told as places in them; an answer written as bytes; the number of an outcome.
 // Relies on node (places, a rest of two strings), octets, and image for the definitions.
 
 #![tactic(auto)]
@@ -6,13 +6,13 @@
 ghost use Rattle.std.specs.Prelude.{◌≡◌, ◌+◌, ◌≤◌, length};
 ghost use Rattle.image.specs.Path.{path_limit};
 ghost use Rattle.image.specs.Batch.{request_of, answer_bytes};
-ghost use Rattle.image.specs.Answers.{refusal_limit, refusal_number, outcome_number, outcome_answer, found_answer};
+ghost use Rattle.image.specs.Answers.{refusal_limit, outcome_number, outcome_answer, found_answer};
 ghost use Rattle.octets.specs.Put.{put};
 ghost use Rattle.node.specs.Cut.{cut};
 ghost use Rattle.query.specs.Asked.{found_length};
 ghost use Rattle.requests.specs.Pieces.{PieceIs, Reads, upkeep_of, query_most, head_bytes};
 
-use image::{Found, Outcome, Refusal};
+use image::Refusal;
 use node::{Place, Split};
 
 // The length of an answer's head: two bytes for how many follow it, two for its number. The answer of a change is its head alone.
@@ -38,15 +38,14 @@ pub enum Query {
     Next(Place, Place),
 }
 
-// A piece: a request, or none that reads.
+// A piece that reads.
 #[derive(Clone, Copy)]
 pub enum Piece {
     Change(Change),
     Query(Query),
-    None,
 }
 
-// A piece, and where the next one begins.
+// A piece that reads, and where the next one begins.
 #[derive(Clone, Copy)]
 pub struct Reading {
     pub piece: Piece,
@@ -54,52 +53,52 @@ pub struct Reading {
 }
 
 // settle and tidy, with an empty rest; flush and heal, with the number of a node.
-fn upkeep_at(s: &[u8], kind: usize, start: usize, stop: usize) -> Piece
+fn upkeep_at(s: &[u8], kind: usize, start: usize, stop: usize) -> Option<Piece>
     requires { (start ≤ stop) × (stop ≤ length s.now) }
     ensures { PieceIs s.now (upkeep_of kind (cut s.now start stop)) result }
 {
     if stop - start == 0 {
         if kind == image::SETTLE {
-            return Piece::Change(Change::Settle);
+            return Some(Piece::Change(Change::Settle));
         }
         if kind == image::TIDY {
-            return Piece::Change(Change::Tidy);
+            return Some(Piece::Change(Change::Tidy));
         }
-        return Piece::None;
+        return None;
     }
     if stop - start != 2 {
-        return Piece::None;
+        return None;
     }
     let number = octets::u16_at(s, start);
     if kind == image::FLUSH {
-        return Piece::Change(Change::Flush(number));
+        return Some(Piece::Change(Change::Flush(number)));
     }
     if kind == image::HEAL {
-        return Piece::Change(Change::Heal(number));
+        return Some(Piece::Change(Change::Heal(number)));
     }
-    Piece::None
+    None
 }
 
 // The request of a kind whose rest is the part from start to stop.
-fn request_at(s: &[u8], kind: usize, start: usize, stop: usize) -> Piece
+fn request_at(s: &[u8], kind: usize, start: usize, stop: usize) -> Option<Piece>
     requires { (start ≤ stop) × (stop ≤ length s.now) }
     ensures { PieceIs s.now (request_of kind (cut s.now start stop)) result }
 {
     let whole = Place { start, stop };
     if kind == image::DROP {
-        return Piece::Change(Change::Drop(whole));
+        return Some(Piece::Change(Change::Drop(whole)));
     }
     if kind == image::CLEAR {
-        return Piece::Change(Change::Clear(whole));
+        return Some(Piece::Change(Change::Clear(whole)));
     }
     if kind == image::GET {
-        return Piece::Query(Query::Get(whole));
+        return Some(Piece::Query(Query::Get(whole)));
     }
     if image::SETTLE <= kind {
         return upkeep_at(s, kind, start, stop);
     }
     let Split::At(m) = node::parted(s, start, stop) else {
-        return Piece::None;
+        return None;
     };
     let first = Place {
         start: start + 2,
@@ -107,43 +106,38 @@ fn request_at(s: &[u8], kind: usize, start: usize, stop: usize) -> Piece
     };
     let second = Place { start: m, stop };
     if kind == image::PUT {
-        return Piece::Change(Change::Put(first, second));
+        return Some(Piece::Change(Change::Put(first, second)));
     }
     if kind == image::MOVE {
-        return Piece::Change(Change::Move(first, second));
+        return Some(Piece::Change(Change::Move(first, second)));
     }
     if kind == image::NEXT {
-        return Piece::Query(Query::Next(first, second));
+        return Some(Piece::Query(Query::Next(first, second)));
     }
-    Piece::None
+    None
 }
 
-// The piece at a place.
-pub fn read_piece(s: &[u8], at: usize) -> Reading
+// The piece at a place, if one reads there.
+pub fn read_piece(s: &[u8], at: usize) -> Option<Reading>
     requires { at ≤ length s.now }
     ensures { Reads s.now at result }
 {
     if s.len() - at < 4 {
-        return Reading {
-            piece: Piece::None,
-            end: at,
-        };
+        return None;
     }
     let len = octets::u16_at(s, at);
     let kind = octets::u16_at(s, at + 2);
     let start = at + 4;
     if s.len() - start < len {
-        return Reading {
-            piece: Piece::None,
-            end: at,
-        };
+        return None;
     }
     let end = start + len;
-    let piece = request_at(s, kind, start, end);
-    Reading { piece, end }
+    let piece = request_at(s, kind, start, end)?;
+    Some(Reading { piece, end })
 }
 
 // How many bytes the answer of a query takes at most.
+#[tactic(auto, unfolding(crate::specs::Pieces::query_most))]
 pub fn most_bytes(query: Query) -> usize
     ensures { result ≡ query_most query }
 {
@@ -153,29 +147,14 @@ pub fn most_bytes(query: Query) -> usize
     }
 }
 
-pub fn refusal_number(refusal: Refusal) -> u32
-    ensures { (result ≡ refusal_number refusal) × (result ≤ refusal_limit) }
-{
-    match refusal {
-        Refusal::Length => 1,
-        Refusal::Unsound => 2,
-        Refusal::Malformed => 3,
-        Refusal::LongValue => 4,
-        Refusal::ShortBuffer => 5,
-        Refusal::NotInterior => 6,
-        Refusal::Nested => 7,
-        Refusal::Absent => 8,
-        Refusal::BecomesMalformed => 9,
-        Refusal::Full => 10,
-    }
-}
-
-pub fn outcome_number(outcome: Outcome) -> u32
+// The number of an outcome: 0, or that of the refusal.
+#[tactic(auto, unfolding(image::specs::Answers::outcome_number))]
+pub fn outcome_number(outcome: Result<(), Refusal>) -> u32
     ensures { (result ≡ outcome_number outcome) × (result ≤ refusal_limit) }
 {
     match outcome {
-        Outcome::Done => 0,
-        Outcome::Refused(refusal) => refusal_number(refusal),
+        Ok(()) => 0,
+        Err(refusal) => u32::from(refusal),
     }
 }
 
@@ -189,7 +168,7 @@ fn write_head(answers: &mut [u8], at: usize, len: usize, number: u32)
 }
 
 // The answer of a change; answers the place behind it.
-pub fn write_outcome(answers: &mut [u8], at: usize, outcome: Outcome) -> usize
+pub fn write_outcome(answers: &mut [u8], at: usize, outcome: Result<(), Refusal>) -> usize
     requires { at + 4 ≤ length answers.old }
     ensures { (answers.new ≡ put answers.old at (answer_bytes (outcome_answer outcome))) × (result ≡ at + length (answer_bytes (outcome_answer outcome))) }
 {
@@ -198,19 +177,24 @@ pub fn write_outcome(answers: &mut [u8], at: usize, outcome: Outcome) -> usize
 }
 
 // The answer of a query, whose bytes stand at the front of its buffer; answers the place behind it.
-pub fn write_found(answers: &mut [u8], at: usize, found: Found, buffer: &[u8]) -> usize
+pub fn write_found(
+    answers: &mut [u8],
+    at: usize,
+    found: Result<usize, Refusal>,
+    buffer: &[u8],
+) -> usize
     requires { (at + 4 + found_length found ≤ length answers.old) × (found_length found ≤ length buffer.now) × (found_length found ≤ path_limit) }
     ensures { (answers.new ≡ put answers.old at (answer_bytes (found_answer found buffer.now)))
         × (result ≡ at + length (answer_bytes (found_answer found buffer.now))) }
 {
     match found {
-        Found::Length(n) => {
+        Ok(n) => {
             write_head(answers, at, n, 0);
             octets::copy_at(answers, at + ANSWER_HEAD, &buffer[0..n]);
             at + ANSWER_HEAD + n
         }
-        Found::Refused(refusal) => {
-            write_head(answers, at, 0, refusal_number(refusal));
+        Err(refusal) => {
+            write_head(answers, at, 0, u32::from(refusal));
             at + ANSWER_HEAD
         }
     }

@@ -5,7 +5,7 @@ use Rattle.questions.specs.Acted.{passed}
 use Rattle.maintain.proofs.flush.Goals as goal
 
 pub flush_fit-requires : goal.flush_fit-requires
-flush_fit-requires c = let f = asked-fit _ _ _ _ c.ask-ready.ensures _ c.in-Fit.is in (passed _ _ _ _ f, f.holds.reached)
+flush_fit-requires c = let f = asked-fit _ _ _ _ c.in_ok-ask.ensures in (passed _ _ _ _ f, f.holds.reached)
 
-pub returns-in-Refused : goal.returns-in-Refused
-returns-in-Refused c = refused-meets _ _ _ _ c.ask-ready.ensures _ c.in-Refused.is _ to_keep
+pub returns-in_err-ask : goal.returns-in_err-ask
+returns-in_err-ask c = refused-meets _ _ _ _ c.in_err-ask.ensures _ c.from_residual.ensures.1 _ to_keep

@@ -5,7 +5,7 @@ use Rattle.questions.specs.Acted.{passed}
 use Rattle.maintain.proofs.tidy.Goals as goal
 
 pub tidy_fit-requires : goal.tidy_fit-requires
-tidy_fit-requires c = passed _ _ _ _ (asked-fit _ _ _ _ c.ask-ready.ensures _ c.in-Fit.is)
+tidy_fit-requires c = passed _ _ _ _ (asked-fit _ _ _ _ c.in_ok-ask.ensures)
 
-pub returns-in-Refused : goal.returns-in-Refused
-returns-in-Refused c = refused-meets _ _ _ _ c.ask-ready.ensures _ c.in-Refused.is _ to_act
+pub returns-in_err-ask : goal.returns-in_err-ask
+returns-in_err-ask c = refused-meets _ _ _ _ c.in_err-ask.ensures _ c.from_residual.ensures.1 _ to_act

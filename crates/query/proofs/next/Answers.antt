@@ -1,18 +1,14 @@
--- `next` meets its contract. Relies on specs/Asked.
-use Rattle.std.proofs.Common.{ap, not}
-use Rattle.image.specs.Prelude.{sym, ◌∙◌, not-false}
+-- `next` meets its contract. Relies on specs/Asked, and on specs/CheckSteps for what questions 1 and 2 tell.
+use Rattle.std.proofs.lemmas.Result.{err_from_is_err_and}
 use Rattle.image.specs.Calls.{next}
-use Rattle.query.specs.Asked.{ragged-store, unsound-store, refused-short}
+use Rattle.query.specs.Asked.{unfit-store, refused-short}
+use Rattle.query.specs.CheckSteps.{fit-store}
 use Rattle.query.proofs.next.Goals as goal
 
-pub returns-then-not-whole_nodes : goal.returns-then-not-whole_nodes
-returns-then-not-whole_nodes c = record { meets = ragged-store c.args.store.now (next c.args.path.now c.args.after.now) c.args.buffer.now _ c.whole_nodes.ensures c.if-not-whole_nodes.true; short = refused-short _ _ }
-
-pub is_sound-requires : goal.is_sound-requires
-is_sound-requires c = sym c.whole_nodes.ensures ∙ not-false _ (ap not c.if-not-whole_nodes.false)
-
-pub returns-then-not-is_sound : goal.returns-then-not-is_sound
-returns-then-not-is_sound c = record { meets = unsound-store c.args.store.now (next c.args.path.now c.args.after.now) c.args.buffer.now _ c.whole_nodes.ensures c.if-not-whole_nodes.false _ c.is_sound.ensures c.if-not-is_sound.true; short = refused-short _ _ }
+pub returns-in_err-judge_store : goal.returns-in_err-judge_store
+returns-in_err-judge_store c =
+    let p = err_from_is_err_and c.from_residual.result c.from_residual.ensures.1 in
+    rw (p.1, p.2) (record { meets = unfit-store c.args.store.now (next c.args.path.now c.args.after.now) c.args.buffer.now _ c.in_err-judge_store.ensures; short = refused-short _ _ })
 
 pub next_fit-requires : goal.next_fit-requires
-next_fit-requires c = (sym c.whole_nodes.ensures ∙ not-false _ (ap not c.if-not-whole_nodes.false), sym c.is_sound.ensures ∙ not-false _ (ap not c.if-not-is_sound.false))
+next_fit-requires c = fit-store _ c.in_ok-judge_store.ensures

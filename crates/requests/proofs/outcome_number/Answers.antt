@@ -1,9 +1,9 @@
--- `outcome_number` meets its contract: one law of specs/ for each way out.
-use Rattle.requests.specs.Steps.{done-number, refused-number}
+-- `outcome_number` meets its contract. Relies on laws' Refusals.
+use Rattle.image.specs.Prelude.{arith}
+use Rattle.image.specs.Answers.{outcome_number}
+use Rattle.laws.specs.Refusals.{refusal-few}
 use Rattle.requests.proofs.outcome_number.Goals as goal
 
-pub returns-in-Done : goal.returns-in-Done
-returns-in-Done c = done-number _ c.in-Done.is
-
-pub returns-in-Refused : goal.returns-in-Refused
-returns-in-Refused c = refused-number _ _ _ c.in-Refused.is c.refusal_number.ensures.0 c.refusal_number.ensures.1
+pub returns-in-Err : goal.returns-in-Err
+unfolding outcome_number
+returns-in-Err c = let few = refusal-few c.in-Err.refusal in (rw c.in-Err.is c.from.ensures, omega (arith, c.from.ensures))

@@ -1,4 +1,4 @@
--- What the library's methods on slices compute is the definitions of image's Bytes, the numbers of Cap and the writes of Put. Relies on Ordering.
+-- What the library's methods on slices compute, in the words of image's Bytes, of Ordering and of Put.
 use Rattle.std.specs.Prelude.{ℕ, ◌≡◌, refl, List, [], ◌∷◌, ◌++◌, ◌&&◌, length, take, drop, ltb, eqb}
 use Rattle.std.specs.Cmp.Lexicographic.{pointwise, slice_cmp}
 use Rattle.std.specs.Ordering.{nat_cmp}

@@ -1,5 +1,5 @@
 // Next as one walk over the tree: the best path so far is carried along, and a child that can hold no better one is not entered. The walk may ask one
-// thing more of a path: that what follows `below` does not go on from a shape. Every path is unfit so where no path begins so, a shape of `None`. Relies on: a sound store
+// thing more of a path: that what follows `below` does not go on from a shape. Every path is unfit so for the shape `None`. Relies on: a sound store
 // (the caller has checked it), node (the cursor over a node's entries), lookup (from the root), path (shapes) and octets.
 
 #![tactic(auto)]

@@ -1,6 +1,6 @@
 -- What two lists share tells every test on them.
-use Rattle.std.specs.Prelude.{ℕ, zero, suc, ◌-◌, ◌<◌, ◌≤◌, ◌≡◌, refl, List, [], ◌∷◌, Bool, true, false, ◌&&◌, length, drop, get_or, ltb, eqb}
-use Rattle.image.specs.Prelude.{sym, ap, ◌∙◌, arith, drop_of_length-le, drop-cons, eqb-true, eqb-false, le-ltb, eq-eqb, ne_eqb, cases}
+use Rattle.std.specs.Prelude.{ℕ, zero, suc, ◌-◌, ◌<◌, ◌≤◌, ◌≡◌, refl, List, [], ◌∷◌, Bool, true, false, ◌&&◌, length, drop, get_or, min, leb, ltb, eqb}
+use Rattle.image.specs.Prelude.{sym, ap, ◌∙◌, arith, leb-true, leb-false, drop_of_length-le, drop-cons, eqb-true, eqb-false, le-ltb, eq-eqb, ne_eqb, cases}
 use Rattle.image.specs.Bytes.{same, before, begins, shared}
 use Rattle.image.specs.Path.{owns}
 
@@ -25,6 +25,12 @@ shared-first a b i h = rw (drop_of_length-le a h)
 
 pub shared_second : (a b : List ℕ) (i : ℕ) → length b ≤ i → length (shared (drop i a) (drop i b)) ≡ 0
 shared_second a b i h = rw (drop_of_length-le b h, nil-right (drop i a))
+
+-- past the shorter one nothing is shared
+pub shared-least : (a b : List ℕ) (i : ℕ) → min (length a) (length b) ≤ i → length (shared (drop i a) (drop i b)) ≡ 0
+shared-least a b i h =
+    cases (leb (length a) i) (λ e. shared-first a b i (leb-true (length a) i e))
+    (λ e. let l : i < length a = leb-false (length a) i e in shared_second a b i (omega arith))
 
 -- the tests by the length of what is shared
 suc-eqb : (a b : ℕ) → eqb (suc a) (suc b) ≡ eqb a b

@@ -4,3 +4,4 @@ pub mod Ordering
 pub mod Put
 pub mod Cap
 pub mod Beginnings
+pub mod Library

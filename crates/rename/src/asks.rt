@@ -41,19 +41,14 @@ pub fn any_below(store: &[u8], from: &[u8]) -> bool
 }
 
 // Whether the second shape has no more components and no more bytes than the first.
+#[tactic(auto, unfolding(path::specs::Fed::shape_is, crate::specs::Asks::Shorter::no_wider))]
 fn no_wider(old: Shape, new: Shape) -> bool
     ensures { result ≡ no_wider (shape_is old) (shape_is new) }
 {
-    let Shape::Partway(done, here, len) = old else {
-        return false;
-    };
-    let Shape::Partway(count, tail, size) = new else {
-        return false;
-    };
-    if done < count {
-        return false;
+    match (old, new) {
+        (Some(a), Some(b)) => b.components <= a.components && b.bytes <= a.bytes,
+        _ => false,
     }
-    size <= len
 }
 
 // Whether, of every present path below `from`, what follows `from` goes on from the shape: one walk looks for a path that does not.
@@ -70,8 +65,9 @@ pub fn stays_formed(store: &[u8], from: &[u8], to: &[u8]) -> bool
     requires { (sound store.now ≡ true) × (well_formed from.now ≡ true) × (well_formed to.now ≡ true) }
     ensures { result ≡ every_key well_formed (moved from.now to.now (table_of store.now)) }
 {
-    let old = path::feed(Shape::Partway(0, 0, 0), from);
-    let new = path::feed(Shape::Partway(0, 0, 0), to);
+    let start = path::start();
+    let old = path::feed(start, from);
+    let new = path::feed(start, to);
     if no_wider(old, new) {
         return true;
     }

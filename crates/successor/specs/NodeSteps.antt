@@ -1,6 +1,6 @@
 -- The steps of the functions that walk a child, a run of children, and a node: one law for each return.
 -- Relies on: WalkLaws, and on which paths those are (Candidates).
-use Rattle.std.specs.Prelude.{ℕ, ◌-◌, ◌<◌, ◌≤◌, ◌≡◌, List, [], ◌∷◌, ◌++◌, Bool, true, length, take, drop}
+use Rattle.std.specs.Prelude.{ℕ, ◌-◌, ◌<◌, ◌≤◌, ◌≡◌, List, [], ◌∷◌, ◌++◌, Bool, true, length, take, drop, None}
 use Rattle.image.specs.Prelude.{sym, ap, ◌∙◌, Option}
 use Rattle.image.specs.Bytes.{shared, u16}
 use Rattle.image.specs.Entry as defined
@@ -10,7 +10,6 @@ use Rattle.image.specs.Sound.{sound, table_of, highest}
 use Rattle.laws.specs.Filter.{keep}
 use Rattle.path.specs.Shape.{Shape}
 use Rattle.path.specs.Fed.{shape_is}
-use Rattle.path.specs.declared.Shape as path
 use Rattle.laws.specs.Reading.Far.{far_from}
 use Rattle.laws.specs.Reading.SeekHere.{under, keys_here}
 use Rattle.node.specs.Places.{part, entry_in, cursor_of}
@@ -90,6 +89,6 @@ root-next s root levels e a b sh below after best h r f =
     f ∙ ap (λ o. walk_in s sh below after o (under [] (keys_here (tree_at levels s root) highest))) (empty-handed best h) ∙ root-walk s root levels e a b sh below after
 
 -- 6. Next: every path is unfit for the dead shape.
-pub next-any : (below after : List ℕ) (t : List Row) (r : Option (List ℕ)) → r ≡ least_after below after (keep (unfit (shape_is path.Shape.Dead) below) t) → r ≡ least_after below after t
+pub next-any : (below after : List ℕ) (t : List Row) (r : Option (List ℕ)) → r ≡ least_after below after (keep (unfit (shape_is None) below) t) → r ≡ least_after below after t
 unfolding shape_is
 next-any below after t r e = e ∙ ap (least_after below after) (dead_keeps below t)

@@ -1,12 +1,11 @@
 -- The tests on a path or a range, one law for each return.
 -- Relies on: better and wanted of laws/specs/Reading/Seek, far_from of laws/specs/Reading/Far, the shape of a path fed in parts (path/specs/Shape).
-use Rattle.std.specs.Prelude.{ℕ, ◌-◌, ◌<◌, ◌≤◌, ◌+◌, ◌≡◌, refl, List, ◌++◌, Bool, true, false, ◌&&◌, ◌||◌, not, length, take, drop}
+use Rattle.std.specs.Prelude.{ℕ, ◌-◌, ◌<◌, ◌≤◌, ◌+◌, ◌≡◌, refl, List, ◌++◌, Bool, true, false, ◌&&◌, ◌||◌, not, length, take, drop, None}
 use Rattle.image.specs.Prelude.{sym, ap, ◌∙◌, Option, arith, drop-append-le, drop-append-add, not-true, not-false}
 use Rattle.image.specs.Bytes.{before, begins}
 use Rattle.path.specs.Shape.{feed, closed, goes_on, feed-append}
-use Rattle.path.specs.Fed.{shape_is}
+use Rattle.path.specs.Fed.{Shape, shape_is}
 use Rattle.path.specs.Reads.{goes-dead}
-use Rattle.path.specs.declared.Shape.{Shape}
 use Rattle.laws.specs.Reading.Far.{far_from}
 use Rattle.laws.specs.Reading.Seek.{better, wanted}
 use Rattle.node.specs.declared.PathBuffer.{PathBuffer}
@@ -52,7 +51,7 @@ module _ (below after k : List ℕ) (best : Option (List ℕ)) (q : Bool) (eq : 
 
 -- the rest after `below` of a path in two parts, a and b
 module _ (sh : Shape) (below a b : List ℕ) where
-  pub unfit-dead : sh ≡ Shape.Dead → true ≡ unfit (shape_is sh) below (a ++ b)
+  pub unfit-dead : sh ≡ None → true ≡ unfit (shape_is sh) below (a ++ b)
   unfolding unfit
   unfit-dead e = ap not (goes-dead sh (drop (length below) (a ++ b)) e)
 

@@ -1,5 +1,5 @@
 // Next as one walk over the tree: the best path so far is carried along, and a child that can hold no better one is not entered. The walk may ask one
-// thing more of a path: that what follows `below` does not go on from a shape. Every path is unfit so for the dead shape. Relies on: a sound store
+// thing more of a path: that what follows `below` does not go on from a shape. Every path is unfit so for the shape `None`. Relies on: a sound store
 // (the caller has checked it), node (the cursor over a node's entries), lookup (from the root), path (shapes) and octets.
 
 #![tactic(auto)]
@@ -145,9 +145,9 @@ pub fn is_unfit(pre: &[u8], s: &[u8], below: &[u8], shape: Shape) -> bool
     requires { length below.now ≤ length pre.now + length s.now }
     ensures { result ≡ unfit (shape_is shape) below.now (pre.now ++ s.now) }
 {
-    let Shape::Partway(_, _, _) = shape else {
+    if shape.is_none() {
         return true;
-    };
+    }
     let n = pre.len();
     let cut = below.len();
     if n < cut {
@@ -446,5 +446,5 @@ pub fn next_path(store: &[u8], below: &[u8], after: &[u8]) -> PathBuffer
     requires { sound store.now ≡ true }
     ensures { buffer_is result ≡ least_after below.now after.now (table_of store.now) }
 {
-    next_unfit(store, below, after, Shape::Dead)
+    next_unfit(store, below, after, None)
 }

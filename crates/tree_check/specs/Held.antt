@@ -1,8 +1,8 @@
 -- What the check of a list of children is lent as plain numbers, the tally so far and its parent, and what it promises of the list.
 -- Relies on Answer and Sequence.
-use Rattle.std.specs.Prelude.{ℕ, ◌≡◌, refl, List, [], ◌∷◌, Bool, true, false, cond, get_or, eqb}
+use Rattle.std.specs.Prelude.{ℕ, ◌≡◌, refl, List, [], ◌∷◌, Bool, true, false, cond, get_or, eqb, None, Some}
 use Rattle.image.specs.Prelude.{sym, ap, Option, eq-eqb, ne_eqb}
-use Rattle.path.specs.declared.Shape.{Shape}
+use Rattle.path.specs.Fed.{Shape}
 use Rattle.tree_check.specs.declared.lent.Parent.{Parent}
 use Rattle.tree_check.specs.declared.Tally.{Tally}
 use Rattle.tree_check.specs.declared.Checked.{Checked}
@@ -25,7 +25,7 @@ parent_is l =
       level = get_or l 0 0;
       end = get_or l 1 0;
       low = record { start = get_or l 2 0; stop = get_or l 3 0 };
-      shape = cond (eqb (get_or l 4 0) 0) Shape.Dead (Shape.Partway (get_or l 5 0) (get_or l 6 0) (get_or l 7 0));
+      shape = cond (eqb (get_or l 4 0) 0) None (Some (record { components = get_or l 5 0; here = get_or l 6 0; bytes = get_or l 7 0 }));
     }
 
 -- x is what the walk over the list leaves and y what the list holds. Of whatever walk they are the rest, with the tally before them, the answer is that walk's.
@@ -36,11 +36,11 @@ module _ (l : List ℕ) where
   abbrev flat_of : Shape → Parent
   flat_of z = record { level = get_or l 0 0; end = get_or l 1 0; low = record { start = get_or l 2 0; stop = get_or l 3 0 }; shape = z }
 
-  pub parent-dead : get_or l 4 0 ≡ 0 → flat_of Shape.Dead ≡ parent_is l
+  pub parent-dead : get_or l 4 0 ≡ 0 → flat_of None ≡ parent_is l
   unfolding parent_is
   parent-dead e = rw (eq-eqb (get_or l 4 0) 0 e)
 
-  pub parent-partway : (get_or l 4 0 ≡ 0 → ⊥) → flat_of (Shape.Partway (get_or l 5 0) (get_or l 6 0) (get_or l 7 0)) ≡ parent_is l
+  pub parent-partway : (get_or l 4 0 ≡ 0 → ⊥) → flat_of (Some (record { components = get_or l 5 0; here = get_or l 6 0; bytes = get_or l 7 0 })) ≡ parent_is l
   unfolding parent_is
   parent-partway h = rw (ne_eqb (get_or l 4 0) 0 h)
 
@@ -48,11 +48,11 @@ module _ (p : Parent) where
   abbrev with_shape : Shape → Parent
   with_shape z = record { level = p.level; end = p.end; low = p.low; shape = z }
 
-  pub flat-dead : p.shape ≡ Shape.Dead → parent_is (p.level ∷ p.end ∷ p.low.start ∷ p.low.stop ∷ 0 ∷ 0 ∷ 0 ∷ 0 ∷ []) ≡ p
+  pub flat-dead : p.shape ≡ None → parent_is (p.level ∷ p.end ∷ p.low.start ∷ p.low.stop ∷ 0 ∷ 0 ∷ 0 ∷ 0 ∷ []) ≡ p
   unfolding parent_is
   flat-dead e = ap (λ z. with_shape z) (sym e)
 
-  pub flat-partway : (a b c : ℕ) → p.shape ≡ Shape.Partway a b c
+  pub flat-partway : (a b c : ℕ) → p.shape ≡ Some (record { components = a; here = b; bytes = c })
       → parent_is (p.level ∷ p.end ∷ p.low.start ∷ p.low.stop ∷ 1 ∷ a ∷ b ∷ c ∷ []) ≡ p
   unfolding parent_is
   flat-partway a b c e = ap (λ z. with_shape z) (sym e)

@@ -8,8 +8,7 @@ use Rattle.image.specs.Sound.{sound_tree, sound_header, once, in_range, numbers,
 use Rattle.octets.specs.Order.{and-false, and_left, and_right}
 use Rattle.path.specs.Shape.{fresh}
 use Rattle.laws.specs.Reading.Visit.{mark, mark_all, visit, blank, zero-at, visit-root}
-use Rattle.path.specs.declared.Shape.{Shape}
-use Rattle.path.specs.Fed.{shape_is}
+use Rattle.path.specs.Fed.{Shape, shape_is}
 use Rattle.node.specs.Cut.{cut, cut-drop}
 use Rattle.lookup.specs.Look.{node-is}
 use Rattle.lookup.specs.Root.{first-u16}
@@ -172,10 +171,6 @@ module _ (s : List ℕ) where
       turn true false false = refl
       turn false b c = refl
 
-  start-shape : shape_is (Shape.Partway 0 0 0) ≡ fresh
-  unfolding shape_is
-  start-shape = refl
-
   -- an answer of the walk, read
   from_out : (r : Checked) (seen M : List ℕ) (b : Bool) → out r seen ≡ cond b (some M) none → is_sound r ≡ b
   unfolding out is_sound
@@ -215,9 +210,9 @@ module _ (s : List ℕ) where
   marks-of (Checked.Sound t) seen m h e = marks-at seen m h e
 
   pub from-root : 1024 ≤ length s → (b : Bool) → b ≡ sound_head s → b ≡ true → (m : ℕ) → nodes_of (length s) ≤ m → (blanks : List ℕ) → blanks ≡ blank m
-      → (root levels : ℕ) → root ≡ u16 s 6 → levels ≡ u16 s 8 → (r : Checked) (seen : List ℕ)
-      → Checks (visit (tree_at levels s root) (nodes_of (length s)) (shape_is (Shape.Partway 0 0 0)) [] (255 ∷ []) blanks) (count_of (tree_at levels s root)) r seen → Verified s r seen
-  from-root long b eb fb m hm blanks ebl root levels er el r seen h =
+      → (root levels : ℕ) → root ≡ u16 s 6 → levels ≡ u16 s 8 → (begun : Shape) → shape_is begun ≡ fresh → (r : Checked) (seen : List ℕ)
+      → Checks (visit (tree_at levels s root) (nodes_of (length s)) (shape_is begun) [] (255 ∷ []) blanks) (count_of (tree_at levels s root)) r seen → Verified s r seen
+  from-root long b eb fb m hm blanks ebl root levels er el begun start-shape r seen h =
       let t : tree_at levels s root ≡ tree_of s = root-tree long root levels er el in
       let w : out r seen ≡ cond (sound_tree (tree_of s) [] (255 ∷ []) && (in_range (nodes_of (length s)) (numbers (tree_of s)) && once (numbers (tree_of s)))) (some (mark_all (blank m) (numbers (tree_of s)))) none
       = h.marks

@@ -6,7 +6,7 @@ ghost use Rattle.tree_check.specs.Held.{tally_is, answer_is, parent_is};
 
 use crate::{Checked, Tally};
 use node::Place;
-use path::Shape;
+use path::{Progress, Shape};
 
 // The tally that is held as pairs, messages and nodes.
 pub fn tally_of(held: &[usize; 3]) -> Tally
@@ -49,11 +49,15 @@ pub fn flattened(p: Parent) -> [usize; 8]
     let low = p.low;
     let a = low.start;
     let b = low.stop;
-    let shape = p.shape;
-    let Shape::Partway(done, here, len) = shape else {
+    let Some(lifted) = p.shape else {
         return [level, end, a, b, 0, 0, 0, 0];
     };
-    [level, end, a, b, 1, done, here, len]
+    let Progress {
+        components,
+        here,
+        bytes,
+    } = lifted;
+    [level, end, a, b, 1, components, here, bytes]
 }
 
 pub fn parent_of(flat: &[usize; 8]) -> Parent
@@ -70,10 +74,14 @@ pub fn parent_of(flat: &[usize; 8]) -> Parent
             level,
             end,
             low,
-            shape: Shape::Dead,
+            shape: None,
         };
     }
-    let shape = Shape::Partway(flat[5], flat[6], flat[7]);
+    let shape = Some(Progress {
+        components: flat[5],
+        here: flat[6],
+        bytes: flat[7],
+    });
     Parent {
         level,
         end,

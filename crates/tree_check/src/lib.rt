@@ -359,7 +359,7 @@ pub fn check_tree(store: &[u8], seen: &mut [u8; 1024]) -> Checked
         levels,
         &store[0..0],
         &highest,
-        Shape::Partway(0, 0, 0),
+        path::start(),
         seen,
     )
 }

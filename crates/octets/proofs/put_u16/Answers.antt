@@ -1,10 +1,9 @@
--- `put_u16` meets its contract. Relies on specs/Put.
-use Rattle.image.specs.Prelude.{length-set, arith}
-use Rattle.octets.specs.Put.{put_two}
+-- `put_u16` meets its contract: the part that is written. Relies on specs/Library.
+use Rattle.std.proofs.Common.{rules}
+use Rattle.image.specs.Prelude.{arith}
+use Rattle.image.specs.Bytes.{u16_bytes}
+use Rattle.octets.specs.Library.{part_put}
 use Rattle.octets.proofs.put_u16.Goals as goal
 
-pub bounds-page-at-2 : goal.bounds-page-at-2
-bounds-page-at-2 c = simp length-set (omega arith)
-
 pub returns : goal.returns
-returns c = put_two _ _ _ (omega arith)
+returns c = part_put _ _ _ (u16_bytes c.args.v) _ (search rules) (omega arith)

@@ -1,8 +1,8 @@
--- `u16_at` meets its contract. By the contracts of what it calls alone.
+-- `u16_at` meets its contract: the library's number of two bytes. Relies on image's Bytes.
 use Rattle.image.specs.Prelude.{arith}
 use Rattle.image.specs.Bytes.{u16}
 use Rattle.octets.proofs.u16_at.Goals as goal
 
 pub returns : goal.returns
 unfolding u16
-returns c = omega arith
+returns c = (omega (arith, c.from.ensures, c.from_le_bytes.ensures), omega (arith, c.from.ensures, c.from_le_bytes.ensures))

@@ -2,21 +2,19 @@
 use Rattle.path.specs.Reads.{goes-dead, goes-past, goes-long, goes-many, goes-wide, goes-reads}
 use Rattle.image.specs.Prelude.{arith}
 use Rattle.path.proofs.goes_on.Goals as goal
+use Rattle.path.proofs.goes_on.Goals.{then-bytes-gt64-via-then-bytes-gt64, then-bytes-gt64-via-else-bytes-gt64+then-bytes-s, then-bytes-gt64-via-else-bytes-gt64+else-bytes-s+then-components-gt8, then-bytes-gt64-via-else-bytes-gt64+else-bytes-s+else-components-gt8+then-here-gt16}
 
 pub returns-in_default : goal.returns-in_default
 returns-in_default c = goes-dead c.args.sh c.args.s.now c.in_default.is
 
-pub returns-then-len-gt64 : goal.returns-then-len-gt64
-returns-then-len-gt64 c = goes-past c.args.sh c.args.s.now _ _ _ c.in-Partway.is (omega arith)
-
-pub returns-then-len-s : goal.returns-then-len-s
-returns-then-len-s c = goes-long c.args.sh c.args.s.now _ _ _ c.in-Partway.is (omega arith) (omega arith)
-
-pub returns-then-done-gt8 : goal.returns-then-done-gt8
-returns-then-done-gt8 c = goes-many c.args.sh c.args.s.now _ _ _ c.in-Partway.is (omega arith) (omega arith) (omega arith)
-
-pub returns-then-here-gt16 : goal.returns-then-here-gt16
-returns-then-here-gt16 c = goes-wide c.args.sh c.args.s.now _ _ _ c.in-Partway.is (omega arith) (omega arith) (omega arith)
+pub returns-then-bytes-gt64 : goal.returns-then-bytes-gt64
+returns-then-bytes-gt64 c =
+    elim c.then-bytes-gt64.branch [
+      | then-bytes-gt64-via-then-bytes-gt64 w ↦ goes-past c.args.sh c.args.s.now _ _ _ c.in-Some.is (omega arith)
+      | then-bytes-gt64-via-else-bytes-gt64+then-bytes-s w ↦ goes-long c.args.sh c.args.s.now _ _ _ c.in-Some.is (omega arith) (omega arith)
+      | then-bytes-gt64-via-else-bytes-gt64+else-bytes-s+then-components-gt8 w ↦ goes-many c.args.sh c.args.s.now _ _ _ c.in-Some.is (omega arith) (omega arith) (omega arith)
+      | then-bytes-gt64-via-else-bytes-gt64+else-bytes-s+else-components-gt8+then-here-gt16 w ↦ goes-wide c.args.sh c.args.s.now _ _ _ c.in-Some.is (omega arith) (omega arith) (omega arith)
+    ]
 
 pub returns : goal.returns
-returns c = goes-reads c.args.sh c.args.s.now _ _ _ c.in-Partway.is (omega arith) (omega arith) _ c.reads_on.ensures
+returns c = goes-reads c.args.sh c.args.s.now _ _ _ c.in-Some.is (omega arith) (omega arith) _ c.reads_on.ensures

@@ -10,8 +10,7 @@ use Rattle.image.specs.Sound.{sound, table_of}
 use Rattle.laws.specs.Filter.{keep, keep-passes, keep-rises}
 use Rattle.laws.specs.Follow.{table-rises}
 use Rattle.path.specs.Shape as defined
-use Rattle.path.specs.Fed.{shape_is}
-use Rattle.path.specs.declared.Shape.{Shape}
+use Rattle.path.specs.Fed.{Shape, shape_is}
 use Rattle.node.specs.declared.PathBuffer.{PathBuffer}
 use Rattle.successor.specs.Buffer.{buffer_is}
 use Rattle.laws.specs.Formed.{table-formed}
@@ -50,25 +49,6 @@ pub eight_is : (s from : List ℕ) (p : PathBuffer) → sound s ≡ true → buf
 eight_is s from p ok e = handed-back from (table_of s) p (table-formed s ok) (table-rises s ok) e
 
 -- QUESTION 9
-module _ (old new : Shape) where
-  pub old-dead : old ≡ Shape.Dead → false ≡ no_wider (shape_is old) (shape_is new)
-  unfolding shape_is no_wider
-  old-dead e = rw e
-
-  module _ (done here len : ℕ) (e : old ≡ Shape.Partway done here len) where
-    pub new-dead : new ≡ Shape.Dead → false ≡ no_wider (shape_is old) (shape_is new)
-    unfolding shape_is no_wider
-    new-dead f = rw (e, f)
-
-    module _ (count tail size : ℕ) (f : new ≡ Shape.Partway count tail size) where
-      pub more-components : done < count → false ≡ no_wider (shape_is old) (shape_is new)
-      unfolding shape_is no_wider
-      more-components h = rw (e, f, lt-leb count done h)
-
-      pub by_bytes : count ≤ done → leb size len ≡ no_wider (shape_is old) (shape_is new)
-      unfolding shape_is no_wider
-      by_bytes h = rw (e, f, le-leb count done h)
-
 -- no path is handed back of those whose rests do not go on
 pub rests-are : (s from : List ℕ) (sh : Shape) (p : PathBuffer) → sound s ≡ true → buffer_is p ≡ least_after from [] (keep (unfit (shape_is sh) from) (table_of s))
     → ltb 64 p.len ≡ rests_fit (shape_is sh) from (table_of s)
@@ -88,14 +68,17 @@ rests-are s from sh p ok e =
     twice true = refl
     twice false = refl
 
-module _ (s from to : List ℕ) (ok : sound s ≡ true) (formed_from : well_formed from ≡ true) (formed_to : well_formed to ≡ true) (old new : Shape)
-    (old-is : shape_is old ≡ defined.feed (shape_is (Shape.Partway 0 0 0)) from) (New-is : shape_is new ≡ defined.feed (shape_is (Shape.Partway 0 0 0)) to)
+module _ (s from to : List ℕ) (ok : sound s ≡ true) (formed_from : well_formed from ≡ true) (formed_to : well_formed to ≡ true) (begun old new : Shape)
+    (start-is : shape_is begun ≡ defined.fresh) (old-is : shape_is old ≡ defined.feed (shape_is begun) from) (New-is : shape_is new ≡ defined.feed (shape_is begun) to)
     (x : Bool) (x-is : x ≡ no_wider (shape_is old) (shape_is new)) where
+  from-start : (z : Shape) (q : List ℕ) → shape_is z ≡ defined.feed (shape_is begun) q → shape_is z ≡ defined.feed defined.fresh q
+  from-start z q e = e ∙ ap (λ b. defined.feed b q) start-is
+
   pub nine-quick : x ≡ true → true ≡ every_key well_formed (moved from to (table_of s))
-  unfolding shape_is
   nine-quick e =
-      sym (nine-is from to (table_of s) (table-formed s ok) ∙ quick-yes from to (table_of s) formed_from formed_to (table-formed s ok) (ap₂ no_wider (sym old-is) (sym New-is) ∙ sym x-is ∙ e))
+      sym
+      (nine-is from to (table_of s) (table-formed s ok)
+      ∙ quick-yes from to (table_of s) formed_from formed_to (table-formed s ok) (ap₂ no_wider (sym (from-start old from old-is)) (sym (from-start new to New-is)) ∙ sym x-is ∙ e))
 
   pub nine-walk : (y : Bool) → y ≡ rests_fit (shape_is new) from (table_of s) → y ≡ every_key well_formed (moved from to (table_of s))
-  unfolding shape_is
-  nine-walk y f = f ∙ ap (λ z. rests_fit z from (table_of s)) New-is ∙ sym (nine-is from to (table_of s) (table-formed s ok))
+  nine-walk y f = f ∙ ap (λ z. rests_fit z from (table_of s)) (from-start new to New-is) ∙ sym (nine-is from to (table_of s) (table-formed s ok))

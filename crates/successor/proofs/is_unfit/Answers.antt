@@ -5,8 +5,8 @@ use Rattle.successor.specs.Tests.{unfit-dead, unfit-first, unfit-second}
 use Rattle.image.specs.Prelude.{arith}
 use Rattle.successor.proofs.is_unfit.Goals as goal
 
-pub returns-in_default : goal.returns-in_default
-returns-in_default c = search (rules, unfit-dead)
+pub returns-then-is_none : goal.returns-then-is_none
+returns-then-is_none c = search (rules, unfit-dead)
 
 pub slice_bounds-goes_on-count : goal.slice_bounds-goes_on-count
 slice_bounds-goes_on-count c = omega arith

@@ -4,7 +4,7 @@ use Rattle.rename.specs.Asks.Walk.{nine-quick, nine-walk}
 use Rattle.rename.proofs.asks.stays_formed.Goals as goal
 
 pub returns-then-no_wider : goal.returns-then-no_wider
-returns-then-no_wider c = search (rules, nine-quick)
+returns-then-no_wider c = nine-quick _ _ _ c.requires.0 c.requires.1 c.requires.2 _ _ _ c.start-start.ensures c.feed-old.ensures c.feed-new.ensures _ c.no_wider.ensures c.if-no_wider.true
 
 pub returns : goal.returns
-returns c = search (rules, nine-walk)
+returns c = nine-walk _ _ _ c.requires.0 c.requires.1 c.requires.2 _ _ _ c.start-start.ensures c.feed-old.ensures c.feed-new.ensures _ c.no_wider.ensures _ c.rests_fit.ensures

@@ -6,4 +6,4 @@ pub returns-in_default : goal.returns-in_default
 returns-in_default c = flat-dead c.args.p c.in_default.is
 
 pub returns : goal.returns
-returns c = flat-partway c.args.p _ _ _ c.in-Partway.is
+returns c = flat-partway c.args.p _ _ _ c.in-Some.is

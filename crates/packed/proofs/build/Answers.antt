@@ -27,7 +27,7 @@ write_above-levels-requires c = let q = leaves-ready c.args.store.now c.args.are
     (omega arith, omega arith, rw c.write_leaves-made.auto.store q.ranged, omega arith, ascent-first c.args.store.now c.args.area.now c.args.m c.args.numbers.now c.requires (omega arith) _ _ c.write_leaves-made.result c.write_leaves-made.ensures)
 
 pub mark_at-root-requires : goal.mark_at-root-requires
-mark_at-root-requires c = let q = leaves-ready c.args.store.now c.args.area.now c.args.m c.args.numbers.now c.requires (omega arith) in let r = q.fit.room in (omega arith, omega arith)
+mark_at-root-requires c = let q = leaves-ready c.args.store.now c.args.area.now c.args.m c.args.numbers.now c.requires (omega arith) in let r = q.fit.room in omega arith
 
 pub write_header-requires-2 : goal.write_header-requires-2
 write_header-requires-2 c = let q = leaves-ready c.args.store.now c.args.area.now c.args.m c.args.numbers.now c.requires (omega arith) in

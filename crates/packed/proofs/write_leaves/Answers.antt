@@ -16,10 +16,10 @@ write_leaf-requires c = let q = leaf-ready c.args.m c.args.numbers.now c.args.ar
     let r = q.room in
     let a = q.later in
     let b = q.last in
-    (c.loop-i.invariant.fit, omega arith, omega arith, omega arith, q.fits, omega arith, omega arith)
+    (c.loop-i.invariant.fit, omega arith, omega arith, q.fits, omega arith, omega arith)
 
 pub clear_marks-requires : goal.clear_marks-requires
-clear_marks-requires c = let q = leaf-ready c.args.m c.args.numbers.now c.args.area.now c.loop-i.area c.args.store.now c.loop-i.store c.loop-i.i c.loop-i.made c.loop-i.invariant (omega arith) c.requires.3 c.requires.4 c.row_weight-w.result c.row_weight-w.ensures.0 c.leaf_end-j.result c.leaf_end-j.ensures in let a = q.later in let b = q.last in let r = c.loop-i.invariant.fit.room in (omega arith, omega arith, omega arith)
+clear_marks-requires c = let q = leaf-ready c.args.m c.args.numbers.now c.args.area.now c.loop-i.area c.args.store.now c.loop-i.store c.loop-i.i c.loop-i.made c.loop-i.invariant (omega arith) c.requires.3 c.requires.4 c.row_weight-w.result c.row_weight-w.ensures.0 c.leaf_end-j.result c.leaf_end-j.ensures in let a = q.later in let b = q.last in let r = c.loop-i.invariant.fit.room in (omega arith, omega arith)
 
 pub overflow_add-made : goal.overflow_add-made
 overflow_add-made c = let q = leaf-ready c.args.m c.args.numbers.now c.args.area.now c.loop-i.area c.args.store.now c.loop-i.store c.loop-i.i c.loop-i.made c.loop-i.invariant (omega arith) c.requires.3 c.requires.4 c.row_weight-w.result c.row_weight-w.ensures.0 c.leaf_end-j.result c.leaf_end-j.ensures in let z = q.left in let g = c.well_formed.1.1.1.0.0 in omega arith

@@ -1,6 +1,6 @@
 -- `set_row` meets its contract: the path is in the first part of the rows, or in the second, or comes new into the second.
 -- Relies on specs/Insertion/ReplaceSteps and on the contracts of the calls.
-use Rattle.dump.specs.Insertion.Slots.{fit-fewer}
+use Rattle.packed.specs.Rows.Area.{fit-fewer}
 use Rattle.dump.specs.Insertion.ReplaceSteps.{set_first, first-apart, set-second, second-apart, second-absent, new-room, set_new}
 use Rattle.image.specs.Prelude.{arith}
 use Rattle.dump.proofs.insertion.set_row.Goals as goal

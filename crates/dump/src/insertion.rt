@@ -7,7 +7,7 @@ ghost use Rattle.octets.specs.Put.{put};
 ghost use Rattle.packed.specs.Rows.Area.{RowsFit, RowFits, rows_of};
 ghost use Rattle.dump.specs.Insertion.Insertion.{rank, slot, Inserted, Replaced, Apart, Laid, laid, RowMerged, Merged};
 
-use packed::rows::row_at;
+use packed::rows::{Row, row_at};
 
 // The first of the rows from `from` up to `m`, which rise, that does not come before a path; `m` if there is none.
 pub fn place_of(area: &[u8], from: usize, m: usize, path: &[u8]) -> usize
@@ -49,58 +49,52 @@ fn move_rows(area: &mut [u8], i: usize, m: usize, by: usize)
     }
 }
 
-// The path and its value as a row at its place among the rows from `from` up to `m`, which rise and do not have the path.
-pub fn insert_row(area: &mut [u8], from: usize, m: usize, path: &[u8], value: &[u8])
+// A row at its place among the rows from `from` up to `m`, which rise and do not have its path.
+pub fn insert_row(area: &mut [u8], from: usize, m: usize, row: Row<'_>)
     requires { RowsFit m area.old
         × (from ≤ m)
         × (m * 128 + 128 ≤ length area.old)
-        × (length path.now ≤ 64)
-        × (length value.now ≤ 60)
         × (rising (rows_of (m - from) area.old from) ≡ true)
-        × (find path.now (rows_of (m - from) area.old from) ≡ none) }
-    ensures { Inserted from m area.old area.new path.now value.now }
+        × (find row.path.now (rows_of (m - from) area.old from) ≡ none) }
+    ensures { Inserted from m area.old area.new row.entry.path.now row.entry.value.now }
 {
-    let i = place_of(area, from, m, path);
+    let i = place_of(area, from, m, row.path);
     move_rows(area, i, m, 1);
-    packed::put_row(area, i, path, value);
+    packed::put_row(area, i, row);
 }
 
-// The path's row among the rows from `from` up to `m`, which rise, gets this value. Gives whether there is one.
-fn replace_row(area: &mut [u8], from: usize, m: usize, path: &[u8], value: &[u8]) -> bool
+// The row of the same path among the rows from `from` up to `m`, which rise, gets this row's value. Gives whether there is one.
+fn replace_row(area: &mut [u8], from: usize, m: usize, row: Row<'_>) -> bool
     requires { RowsFit m area.old
         × (from ≤ m)
-        × (length path.now ≤ 64)
-        × (length value.now ≤ 60)
         × (rising (rows_of (m - from) area.old from) ≡ true) }
-    ensures { Replaced from m area.old area.new path.now value.now result }
+    ensures { Replaced from m area.old area.new row.entry.path.now row.entry.value.now result }
 {
-    let i = place_of(area, from, m, path);
+    let i = place_of(area, from, m, row.path);
     if m <= i {
         return false;
     }
-    if !octets::equal(row_at(area, i).path, path) {
+    if !octets::equal(row_at(area, i).path, row.path) {
         return false;
     }
-    packed::put_row(area, i, path, value);
+    packed::put_row(area, i, row);
     true
 }
 
-// The path gets this value: in its row, among those up to `m` or among those from there up to `all`, or else in a new row among the latter.
+// The row's path gets its value: in its row, among those up to `m` or among those from there up to `all`, or else in a new row among the latter.
 // Gives how many rows there are then.
-pub fn set_row(area: &mut [u8], m: usize, all: usize, path: &[u8], value: &[u8]) -> usize
+pub fn set_row(area: &mut [u8], m: usize, all: usize, row: Row<'_>) -> usize
     requires { Apart area.old 0 m all
-        × (length path.now ≤ 64)
-        × (length value.now ≤ 60)
-        × (128 * length (with_row path.now value.now (laid area.old m all)) ≤ length area.old) }
-    ensures { Laid m area.old area.new result (with_row path.now value.now (laid area.old m all)) }
+        × (128 * length (with_row row.path.now row.value.now (laid area.old m all)) ≤ length area.old) }
+    ensures { Laid m area.old area.new result (with_row row.entry.path.now row.entry.value.now (laid area.old m all)) }
 {
-    if replace_row(area, 0, m, path, value) {
+    if replace_row(area, 0, m, row) {
         return all;
     }
-    if replace_row(area, m, all, path, value) {
+    if replace_row(area, m, all, row) {
         return all;
     }
-    insert_row(area, m, all, path, value);
+    insert_row(area, m, all, row);
     all + 1
 }
 

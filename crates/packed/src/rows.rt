@@ -8,11 +8,13 @@ ghost use Rattle.packed.specs.Rows.Puts.{put_mark};
 ghost use Rattle.packed.specs.Rows.Remark.{clear_marks, start_weight};
 ghost use Rattle.packed.specs.Build.Pairs.{leaf_lifts};
 
-// A row: a path and its value.
+// A row: a path and its value, no longer than their places.
 #[derive(Clone, Copy)]
 pub struct Row<'a> {
     pub path: &'a [u8],
     pub value: &'a [u8],
+    pub ghost path_short: { length path.now ≤ 64 },
+    pub ghost value_short: { length value.now ≤ 60 },
 }
 
 // Row `i` of the area.

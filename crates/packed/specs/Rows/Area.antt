@@ -43,8 +43,6 @@ pub record RowIs (i : ℕ) (area path value : List ℕ) : Type 0 where
   pub value_is : value ≡ (row_at area i).value
   pub path_length : length path ≡ get_or area (i * 128) 0
   pub value_length : length value ≡ get_or area (i * 128 + 1) 0
-  pub path_short : length path ≤ 64
-  pub value_short : length value ≤ 60
 
 pub row-is : (i : ℕ) (area : List ℕ) → RowFits i area → (p v : List ℕ) → p ≡ drop (i * 128 + 4) area → v ≡ drop (i * 128 + 68) area
     → RowIs i area (take (get_or area (i * 128) 0) p) (take (get_or area (i * 128 + 1) 0) v)
@@ -62,8 +60,6 @@ row-is i area f p v a b =
       value_is = ap (take (get_or area (i * 128 + 1) 0)) b;
       path_length = l;
       value_length = k;
-      path_short = omega arith;
-      value_short = omega arith;
     }
 
 pub key-length : (m : ℕ) (area : List ℕ) → RowsFit m area → (i : ℕ) → i < m → length (row_at area i).key ≡ get_or area (i * 128) 0

@@ -42,17 +42,11 @@ half_at-higher-requires c = let l = low-levels _ _ _ _ _ c.requires _ c.read_lev
 pub write_root-requires : goal.write_root-requires
 write_root-requires c = root-asked _ _ _ _ _ c.requires _ c.read_levels-h.ensures.0 _ _ _ _ c.cut_both-cuts.ensures _ c.take_range.ensures _ c.low_place-place.ensures.0 _ _ c.half_at-lower.ensures c.half_at-higher.ensures
 
-pub overflow_add-h : goal.overflow_add-h
-overflow_add-h c = omega (arith, low-levels _ _ _ _ _ c.requires _ c.read_levels-h.ensures.0)
-
 pub write_header-requires : goal.write_header-requires
 write_header-requires c = let z = store-size _ _ _ _ _ c.requires in
     let l = low-levels _ _ _ _ _ c.requires _ c.read_levels-h.ensures.0 in
     let k = c.write_root.auto.store ∙ c.take_range.auto.store ∙ c.cut_both-cuts.auto.store in
     (omega arith, omega arith, search rules, omega arith, c.read_live-live.ensures.1)
-
-pub shape_of-store : goal.shape_of-store
-shape_of-store c = c.write_header.auto.store ∙ c.write_root.auto.store ∙ c.take_range.auto.store ∙ c.cut_both-cuts.auto.store
 
 pub returns : goal.returns
 returns c = swung-done _ _ _ _ _ c.requires _ c.read_levels-h.ensures.0 _ _ _ _ c.cut_both-cuts.ensures _ c.take_range.ensures _ c.low_place-place.ensures.0 _ _ c.half_at-lower.ensures c.half_at-higher.ensures _ _ _ _ c.write_root.ensures refl c.read_live-live.ensures.0 c.write_header.ensures

@@ -1,22 +1,13 @@
 // Rows put at their places among rows of the work area that rise: one row, the place by halving and then a move of the rows behind it, or in the
-// place of its path's row; or rows that rise too, merged in one pass. Relies on packed (the layout of a row, and its writer) and on octets.
-ghost use Rattle.std.specs.Prelude.{◌≡◌, true, ◌+◌, ◌*◌, ◌-◌, ◌<◌, ◌≤◌, length, take, drop, get_or};
+// place of its path's row; or rows that rise too, merged in one pass. Relies on packed (a row read and written) and on octets.
+ghost use Rattle.std.specs.Prelude.{◌≡◌, true, ◌+◌, ◌*◌, ◌-◌, ◌<◌, ◌≤◌, length, take, drop};
 ghost use Rattle.image.specs.Prelude.{none};
-ghost use Rattle.image.specs.Bytes.{before, same};
 ghost use Rattle.image.specs.Table.{rising, find, with_row};
 ghost use Rattle.octets.specs.Put.{put};
-ghost use Rattle.packed.specs.Rows.Area.{RowsFit, row_at, rows_of};
+ghost use Rattle.packed.specs.Rows.Area.{RowsFit, RowFits, rows_of};
 ghost use Rattle.dump.specs.Insertion.Insertion.{rank, slot, Inserted, Replaced, Apart, Laid, laid, RowMerged, Merged};
 
-// Whether the path of row `i` comes before a path.
-fn row_precedes(area: &[u8], m: usize, i: usize, path: &[u8]) -> bool
-    requires { RowsFit m area.now × (i < m) }
-    ensures { result ≡ before (row_at area.now i).key path.now }
-{
-    let from = i * 128 + 4;
-    let to = from + octets::wide(area[i * 128]);
-    octets::precedes(&area[from..to], path)
-}
+use packed::rows::{Row, row_at};
 
 // The first of the rows from `from` up to `m`, which rise, that does not come before a path; `m` if there is none.
 pub fn place_of(area: &[u8], from: usize, m: usize, path: &[u8]) -> usize
@@ -27,7 +18,7 @@ pub fn place_of(area: &[u8], from: usize, m: usize, path: &[u8]) -> usize
     let mut high = m;
     while low < high {
         let middle = low + (high - low) / 2;
-        if row_precedes(area, m, middle, path) {
+        if octets::precedes(row_at(area, middle).path, path) {
             low = middle + 1;
         } else {
             high = middle;
@@ -53,75 +44,57 @@ fn move_rows(area: &mut [u8], i: usize, m: usize, by: usize)
     requires { (i ≤ m) × (1 ≤ by) × ((m + by) * 128 ≤ length area.old) }
     ensures { area.new ≡ put area.old ((i + by) * 128) (take ((m - i) * 128) (drop (i * 128) area.old)) }
 {
-    let mut at = m;
-    while i < at {
-        at = at - 1;
+    for at in (i..m).rev() {
         copy_row(area, at, at + by);
     }
 }
 
-// The path and its value as a row at its place among the rows from `from` up to `m`, which rise and do not have the path.
-pub fn insert_row(area: &mut [u8], from: usize, m: usize, path: &[u8], value: &[u8])
+// A row at its place among the rows from `from` up to `m`, which rise and do not have its path.
+pub fn insert_row(area: &mut [u8], from: usize, m: usize, row: Row<'_>)
     requires { RowsFit m area.old
         × (from ≤ m)
         × (m * 128 + 128 ≤ length area.old)
-        × (length path.now ≤ 64)
-        × (length value.now ≤ 60)
         × (rising (rows_of (m - from) area.old from) ≡ true)
-        × (find path.now (rows_of (m - from) area.old from) ≡ none) }
-    ensures { Inserted from m area.old area.new path.now value.now }
+        × (find row.path.now (rows_of (m - from) area.old from) ≡ none) }
+    ensures { Inserted from m area.old area.new row.entry.path.now row.entry.value.now }
 {
-    let i = place_of(area, from, m, path);
+    let i = place_of(area, from, m, row.path);
     move_rows(area, i, m, 1);
-    packed::put_row(area, i, path, value);
+    packed::put_row(area, i, row);
 }
 
-// Whether row `i` has a path.
-fn row_holds(area: &[u8], m: usize, i: usize, path: &[u8]) -> bool
-    requires { RowsFit m area.now × (i < m) }
-    ensures { result ≡ same (row_at area.now i).key path.now }
-{
-    let from = i * 128 + 4;
-    let to = from + octets::wide(area[i * 128]);
-    octets::equal(&area[from..to], path)
-}
-
-// The path's row among the rows from `from` up to `m`, which rise, gets this value. Gives whether there is one.
-fn replace_row(area: &mut [u8], from: usize, m: usize, path: &[u8], value: &[u8]) -> bool
+// The row of the same path among the rows from `from` up to `m`, which rise, gets this row's value. Gives whether there is one.
+fn replace_row(area: &mut [u8], from: usize, m: usize, row: Row<'_>) -> bool
     requires { RowsFit m area.old
         × (from ≤ m)
-        × (length path.now ≤ 64)
-        × (length value.now ≤ 60)
         × (rising (rows_of (m - from) area.old from) ≡ true) }
-    ensures { Replaced from m area.old area.new path.now value.now result }
+    ensures { Replaced from m area.old area.new row.entry.path.now row.entry.value.now result }
 {
-    let i = place_of(area, from, m, path);
+    let i = place_of(area, from, m, row.path);
     if m <= i {
         return false;
     }
-    if !row_holds(area, m, i, path) {
+    if !octets::equal(row_at(area, i).path, row.path) {
         return false;
     }
-    packed::put_row(area, i, path, value);
+    packed::put_row(area, i, row);
     true
 }
 
-// The path gets this value: in its row, among those up to `m` or among those from there up to `all`, or else in a new row among the latter.
+// The row's path gets its value: in its row, among those up to `m` or among those from there up to `all`, or else in a new row among the latter.
 // Gives how many rows there are then.
-pub fn set_row(area: &mut [u8], m: usize, all: usize, path: &[u8], value: &[u8]) -> usize
+pub fn set_row(area: &mut [u8], m: usize, all: usize, row: Row<'_>) -> usize
     requires { Apart area.old 0 m all
-        × (length path.now ≤ 64)
-        × (length value.now ≤ 60)
-        × (128 * length (with_row path.now value.now (laid area.old m all)) ≤ length area.old) }
-    ensures { Laid m area.old area.new result (with_row path.now value.now (laid area.old m all)) }
+        × (128 * length (with_row row.path.now row.value.now (laid area.old m all)) ≤ length area.old) }
+    ensures { Laid m area.old area.new result (with_row row.entry.path.now row.entry.value.now (laid area.old m all)) }
 {
-    if replace_row(area, 0, m, path, value) {
+    if replace_row(area, 0, m, row) {
         return all;
     }
-    if replace_row(area, m, all, path, value) {
+    if replace_row(area, m, all, row) {
         return all;
     }
-    insert_row(area, m, all, path, value);
+    insert_row(area, m, all, row);
     all + 1
 }
 
@@ -131,16 +104,13 @@ fn merge_row(area: &mut [u8], first: usize, high: usize, aside: &[u8], left: usi
     requires { RowsFit high area.old
         × (first ≤ high)
         × ((high + left + 1) * 128 ≤ length area.old)
-        × (left * 128 + 128 ≤ length aside.now)
-        × (get_or aside.now (left * 128) 0 ≤ 64)
+        × RowFits left aside.now
         × (rising (rows_of (high - first) area.old first) ≡ true) }
     ensures { RowMerged area.old area.new aside.now first high left result }
 {
     let from = left * 128;
     let to = from + 128;
-    let start = from + 4;
-    let stop = start + octets::wide(aside[from]);
-    let i = place_of(area, first, high, &aside[start..stop]);
+    let i = place_of(area, first, high, row_at(aside, left).path);
     move_rows(area, i, high, left + 1);
     octets::copy_at(area, (i + left) * 128, &aside[from..to]);
     i
@@ -157,9 +127,7 @@ fn merge_chunk(area: &mut [u8], first: usize, middle: usize, end: usize)
     let stop = end * 128;
     octets::copy_at(&mut aside, 0, &area[start..stop]);
     let mut high = middle;
-    let mut left = end - middle;
-    while 0 < left {
-        left = left - 1;
+    for left in (0..end - middle).rev() {
         high = merge_row(area, first, high, &aside, left);
     }
 }

@@ -30,6 +30,7 @@ use live_count::visibility::Trail;
 use live_count::{Position, Visit, path_buffer, visibility};
 use node::search::{Pending, Run};
 use node::{Cursor, Entry, Message, PairStep, PathBuffer, Place, Step};
+use packed::rows::Row;
 
 // The places of a key and its value.
 #[derive(Clone, Copy)]
@@ -156,7 +157,11 @@ fn insert_put(
     let path = full.bytes;
     let x = pair.value.start;
     let y = pair.value.stop;
-    insertion::insert_row(area, first, m, &path[0..n], &store[x..y]);
+    let row = Row {
+        path: &path[0..n],
+        value: &store[x..y],
+    };
+    insertion::insert_row(area, first, m, row);
     m + 1
 }
 

@@ -12,6 +12,7 @@ ghost use Rattle.dump.specs.Replacing.{keeps_rows, only_puts, put_among, Settabl
 
 use crate::insertion;
 use node::{Cursor, Entry, Message, Step};
+use packed::rows::Row;
 
 // Whether a message takes no row away.
 fn message_keeps(m: Message) -> bool
@@ -66,7 +67,11 @@ fn set_message(store: &[u8], area: &mut [u8], m: usize, all: usize, given: Messa
             let b = key.stop;
             let x = value.start;
             let y = value.stop;
-            insertion::set_row(area, m, all, &store[a..b], &store[x..y])
+            let row = Row {
+                path: &store[a..b],
+                value: &store[x..y],
+            };
+            insertion::set_row(area, m, all, row)
         }
         Message::Drop(_) => all,
         Message::Clear(_) => all,

@@ -26,7 +26,7 @@ pub record Packable (s area : List ℕ) (m : ℕ) (given : List ℕ) : Type 0 wh
   pub whole : whole_nodes (length s) ≡ true
   pub room : 128 * m ≤ length area
   pub table : Table (nodes_of (length s)) (rows_of m area 0)
-  pub numbers : length given ≡ 2 * (nodes_of (length s) / 4 - 1)
+  pub numbers : length given ≡ nodes_of (length s) / 4 - 1
 
 -- the work area after an accepted call on a store of n nodes
 abbrev pub cleared : ℕ → List ℕ → List ℕ

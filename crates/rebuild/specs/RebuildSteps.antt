@@ -1,7 +1,7 @@
 -- The steps of the rebuild: what build asks and gives, and how the parts of the work area come back.
 -- Relies on packed/specs/Build/BuiltLaws and on packed/specs (the packed image has at most three levels).
 use Rattle.std.specs.Prelude.{ℕ, zero, suc, ◌+◌, ◌*◌, ◌-◌, ◌/◌, ◌≤◌, ◌≡◌, refl, List, ◌++◌, true, false, length, take, drop, replicate, leb}
-use Rattle.image.specs.Prelude.{sym, ap, ap₂, subst, ◌∙◌, append-nil, arith, length-replicate, drop_of_length-le, ne_eqb}
+use Rattle.image.specs.Prelude.{sym, ap, ap₂, subst, ◌∙◌, append-nil, arith, length-replicate, length-take-le, drop_of_length-le, ne_eqb}
 use Rattle.image.specs.Image.{nodes_of, whole_nodes, header_of}
 use Rattle.image.specs.Sound.{sound, table_of, is_in}
 use Rattle.image.specs.Upkeep.{settled, tidied, used}
@@ -36,13 +36,13 @@ not-past j i zero h = refl
 not-past j i (suc k) h = rw (ne_eqb j i (λ q. omega arith)) (not-past j (suc i) k (omega arith))
 
 -- THE PACKING
-module _ (s area : List ℕ) (m : ℕ) (given given' : List ℕ) (p : Packable s area m given) (e : handed given' ≡ numbers_from 1 (length given / 2)) where
+module _ (s area : List ℕ) (m : ℕ) (given given' : List ℕ) (p : Packable s area m given) (e : handed given' ≡ numbers_from 1 (length given)) where
   pub pack-asks : Asks s area m given'
   pack-asks =
       let w = whole_parts (length s) p.whole in
-      let n : length given / 2 ≡ nodes_of (length s) / 4 - 1 = let q = p.numbers in omega arith in
+      let n : length given ≡ nodes_of (length s) / 4 - 1 = let q = p.numbers in omega arith in
       let least = w.enough in
-      let c = counted-numbers given' (nodes_of (length s)) (length given / 2) e (omega arith) (omega arith) in
+      let c = counted-numbers given' (nodes_of (length s)) (length given) e (omega arith) (omega arith) in
       record {
         size = sym w.filled;
         least = w.enough;
@@ -67,12 +67,12 @@ module _ (s area : List ℕ) (m : ℕ) (given given' : List ℕ) (p : Packable s
       (rw (held-header (image_of s (nodes_of (length s)) (length (rows_of m area 0)) (packed (handed given') (rows_of m area 0))) (nodes_of (length s)) (length (rows_of m area 0))
       (packed (handed given') (rows_of m area 0)) h) (k.levels_most, k.roomy))
 
-  past : (j : ℕ) → nodes_of (length s) / 4 ≤ j → is_in j (numbers_from 1 (length given / 2)) ≡ false
+  past : (j : ℕ) → nodes_of (length s) / 4 ≤ j → is_in j (numbers_from 1 (length given)) ≡ false
   past j h =
       let w = whole_parts (length s) p.whole in
       let q = p.numbers in
       let least = w.enough in
-      not-past j 1 (length given / 2) (omega arith)
+      not-past j 1 (length given) (omega arith)
 
   pub pack-done : (s' : List ℕ) → s' ≡ built_image s area m given' → Repacked s s' (rows_of m area 0)
   pack-done s' f =
@@ -95,20 +95,20 @@ node-count len e = let w = whole_parts len e in (refl, w.enough, w.few)
 
 -- THE WORK AREA
 pub dumped-packable : (s area area' given : List ℕ) (m : ℕ) → whole_nodes (length s) ≡ true → sound s ≡ true → Dumped s area area' m
-    → length given ≡ 2 * (nodes_of (length s) / 4 - 1) → Packable s area' m given
+    → length given ≡ nodes_of (length s) / 4 - 1 → Packable s area' m given
 dumped-packable s area area' given m w h d n =
     record { whole = w; room = d.fit.room; table = rw d.table (store-table s h); numbers = n }
 
 pub repacked-table : (s s' area area' : List ℕ) (m : ℕ) → Dumped s area area' m → Repacked s s' (rows_of m area' 0) → Repacked s s' (table_of s)
 repacked-table s s' area area' m d p = subst (λ t. Repacked s s' t) d.table p
 
--- the room for numbers: 512 bytes are enough for a store of 1,024 nodes
-pub numbers-room : (s : List ℕ) (e : ℕ) → whole_nodes (length s) ≡ true → e ≡ 2 * (length s / 1024 / 4 - 1)
-    → length {A = ℕ} (take (e - 0) (drop 0 (replicate 512 0))) ≡ 2 * (nodes_of (length s) / 4 - 1)
+-- the room for numbers: 256 are enough for a store of 1,024 nodes
+pub numbers-room : (s : List ℕ) (e : ℕ) → whole_nodes (length s) ≡ true → e ≡ length s / 1024 / 4 - 1
+    → length {A = ℕ} (take e (replicate 256 0)) ≡ nodes_of (length s) / 4 - 1
 numbers-room s e w q =
     let n = node-count (length s) w in
-    let l : length {A = ℕ} (replicate 512 0) ≡ 512 = length-replicate {A = ℕ} 512 0 in
-    taken-size e (replicate 512 0) (omega arith) ∙ (omega arith)
+    let l : length {A = ℕ} (replicate 256 0) ≡ 256 = length-replicate {A = ℕ} 256 0 in
+    length-take-le e (replicate 256 0) (omega arith) ∙ (omega arith)
 
 pub work-room : (s w : List ℕ) (k : ℕ) → whole_nodes (length s) ≡ true → k ≡ 128 * (length s / 1024) → 128 * nodes_of (length s) ≤ length w
     → length (take (k - 0) (drop 0 w)) ≡ 128 * nodes_of (length s)

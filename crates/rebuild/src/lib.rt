@@ -11,7 +11,7 @@ ghost use Rattle.packed.specs.Rows.Area.{rows_of};
 ghost use Rattle.rebuild.specs.Rebuild.{Repacked, Packable, Rebuilt};
 
 // The packed form of the first `m` rows of the area over the store, its nodes numbered from 1; `numbers` is room for the numbers.
-fn pack(store: &mut [u8], area: &mut [u8], m: usize, numbers: &mut [u8])
+fn pack(store: &mut [u8], area: &mut [u8], m: usize, numbers: &mut [u16])
     requires { Packable store.old area.old m numbers.old }
     ensures { Repacked store.old store.new (rows_of m area.old 0) }
 {
@@ -26,9 +26,9 @@ fn rebuild_in(store: &mut [u8], area: &mut [u8])
 {
     let m = dump::dump(store, area);
     // A packed tree has fewer nodes than a quarter of the store, so that all from there on are free.
-    let mut numbers = [0u8; 512];
-    let e = 2 * (store.len() / image::NODE_SIZE / 4 - 1);
-    pack(store, area, m, &mut numbers[0..e]);
+    let mut numbers = [0u16; 256];
+    let count = store.len() / image::NODE_SIZE / 4 - 1;
+    pack(store, area, m, &mut numbers[..count]);
     let len = area.len();
     packed::clear_area(area, len);
 }

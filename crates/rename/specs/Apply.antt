@@ -1,5 +1,5 @@
 -- What the act of a move asks, and one law for each way out of the call. Relies on Prepare/Moved (the contract from the steps).
-use Rattle.std.specs.Prelude.{ℕ, ◌*◌, ◌-◌, ◌/◌, ◌≤◌, ◌≡◌, refl, List, ◌++◌, Bool, true, false, length, take, drop}
+use Rattle.std.specs.Prelude.{ℕ, ◌*◌, ◌/◌, ◌≤◌, ◌≡◌, refl, List, ◌++◌, Bool, true, false, length, take, drop}
 use Rattle.image.specs.Prelude.{sym, ap, subst, ◌∙◌}
 use Rattle.image.specs.Bytes.{same}
 use Rattle.image.specs.Image.{nodes_of, whole_nodes, header_of}
@@ -30,16 +30,16 @@ pub record Differ (s w from to seen : List ℕ) (quiet : Bool) : Type 0 where
   pub marks : Marks s seen
   pub quiet_is : quiet ≡ settled s
 
-module _ (s w from to seen : List ℕ) (quiet : Bool) (d : Differ s w from to seen quiet) (s₁ w₁ numbers : List ℕ) (r : ℕ) (p : Prepared s s₁ w w₁ numbers r) (long : length numbers ≡ 2048) where
-  pub numbers-end : r * 2 ≤ length numbers
-  numbers-end = list-end s s₁ w w₁ numbers (take (r * 2 - 0) (drop 0 numbers)) r d.accepted.passed.whole p refl long
+module _ (s w from to seen : List ℕ) (quiet : Bool) (d : Differ s w from to seen quiet) (s₁ w₁ numbers : List ℕ) (r : ℕ) (p : Prepared s s₁ w w₁ numbers r) (long : length numbers ≡ 1024) where
+  pub numbers-end : r ≤ length numbers
+  numbers-end = list-end s s₁ w w₁ numbers (take r numbers) r d.accepted.passed.whole p refl long
 
-  pub swing-asked : SwingAsks s₁ (take (r * 2 - 0) (drop 0 numbers)) from to
+  pub swing-asked : SwingAsks s₁ (take r numbers) from to
   swing-asked =
-      swing-asks s s₁ w w₁ numbers (take (r * 2 - 0) (drop 0 numbers)) from to r d.accepted.passed.whole p refl long d.accepted.formed_from d.accepted.formed_to
+      swing-asks s s₁ w w₁ numbers (take r numbers) from to r d.accepted.passed.whole p refl long d.accepted.formed_from d.accepted.formed_to
       d.accepted.may d.differ d.accepted.nine
 
-  module _ (s₂ : List ℕ) (e : s₂ ≡ swung_with (header_of s₁).live s₁ (handed (take (r * 2 - 0) (drop 0 numbers))) from to) where
+  module _ (s₂ : List ℕ) (e : s₂ ≡ swung_with (header_of s₁).live s₁ (handed (take r numbers)) from to) where
     pub finish-asked : (whole_nodes (length s₂) ≡ true) × (sound_but_live s₂ ≡ true) × (length (table_of s₂) ≤ nodes_of (length s₂)) × (work_per_node * nodes_of (length s₂) ≤ length w₁)
     finish-asked = (
       whole-2 s₁ _ from to swing-asked s₂ (header_of s₁).live (live-few s₁ p.is_sound) e,
@@ -51,7 +51,7 @@ module _ (s w from to seen : List ℕ) (quiet : Bool) (d : Differ s w from to se
 
     pub applied : (s₃ w₂ : List ℕ) → Finished s₂ s₃ w₁ w₂ → Meets s (acts (move from to) w) (outcome_answer Outcome.Done) s₃ w₂
     applied s₃ w₂ z =
-        moved-meets s s₁ s₂ s₃ w w₁ w₂ numbers (take (r * 2 - 0) (drop 0 numbers)) from to r d.accepted.passed.whole d.accepted.number d.differ p swing-asked e z
+        moved-meets s s₁ s₂ s₃ w w₁ w₂ numbers (take r numbers) from to r d.accepted.passed.whole d.accepted.number d.differ p swing-asked e z
 
 -- THE WAYS OUT OF THE CALL, by the answer of the questions
 kept-asked : (s w from to : List ℕ) → AskedMove s w from to Going.Stays → Accepted s w from to × (from ≡ to)

@@ -34,10 +34,9 @@ fn apply_move(
     requires { Differ store.old work.old from.now to.now seen.now quiet }
     ensures { Meets store.old (acts (move from.now to.now) work.old) (outcome_answer Outcome.Done) store.new work.new }
 {
-    let mut numbers = [0u8; 2048];
+    let mut numbers = [0u16; 1024];
     let count = prepare::make_ready(store, work, quiet, seen, &mut numbers);
-    let end = count * 2;
-    swing::swing(store, &numbers[0..end], from, to);
+    swing::swing(store, &numbers[..count], from, to);
     finish::finish(store, work);
 }
 

@@ -23,15 +23,14 @@ pub fn may_swing(quiet: bool, levels: usize, free: usize) -> bool
 }
 
 // The nodes from a quarter of the n on, which a rebuild leaves free; answers how many there are.
-fn list_upper(n: usize, numbers: &mut [u8]) -> usize
-    requires { (n ≤ 1024) × (length numbers.old ≡ 2048) }
+fn list_upper(n: usize, numbers: &mut [u16; 1024]) -> usize
+    requires { n ≤ 1024 }
     ensures { (result ≡ n - n / 4) × (listed result numbers.new 0 ≡ numbers_from (n / 4) (n - n / 4)) }
 {
     let low = n / 4;
-    let r = n - low;
-    let e = 2 * r;
-    packed::count_numbers(&mut numbers[0..e], low);
-    r
+    let count = n - low;
+    packed::count_numbers(&mut numbers[..count], low);
+    count
 }
 
 // Makes the store ready and lists free nodes, enough for the swing; answers how many. `quiet` tells whether no message waits.
@@ -40,9 +39,9 @@ pub fn make_ready(
     work: &mut [u8],
     quiet: bool,
     seen: &[u8; 1024],
-    numbers: &mut [u8],
+    numbers: &mut [u16; 1024],
 ) -> usize
-    requires { Passed store.old work.old × Marks store.old seen.now × (quiet ≡ settled store.old) × (length numbers.old ≡ 2048) }
+    requires { Passed store.old work.old × Marks store.old seen.now × (quiet ≡ settled store.old) }
     ensures { Prepared store.old store.new work.old work.new numbers.new result }
 {
     let free = swing::spare::free_list(seen, store.len() / image::NODE_SIZE, numbers);

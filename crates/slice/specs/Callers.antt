@@ -15,7 +15,7 @@ use Rattle.slice.specs.Right.{RightAsks}
 module _ (s : List ℕ) (num level : ℕ) (lo hi k : List ℕ) (free : List ℕ) (reads : usable (nodes_of (length s)) (tree_at level s num) ≡ true)
     (good : Good level (tree_at level s num) lo hi) (above : before lo k ≡ true) (below : before k hi ≡ true) (short : length k ≤ pivot_limit)
     (few : nodes_of (length s) ≤ 1024) (levels : level ≤ 8) (at : ℕ) where
-  pub left-asked : (at + level) * 2 ≤ length free → ((i : ℕ) → i < at + level → fresh_in free i * 1024 + 1024 ≤ length s) → LeftAsks s num level lo hi k at free
+  pub left-asked : at + level ≤ length free → ((i : ℕ) → i < at + level → fresh_in free i * 1024 + 1024 ≤ length s) → LeftAsks s num level lo hi k at free
   left-asked enough room =
       record {
         reads = reads;
@@ -28,7 +28,7 @@ module _ (s : List ℕ) (num level : ℕ) (lo hi k : List ℕ) (free : List ℕ)
         room = room;
       }
 
-  pub right-asked : (w : Bool) → w || begins k hi ≡ true → (at + 2 * level) * 2 ≤ length free
+  pub right-asked : (w : Bool) → w || begins k hi ≡ true → at + 2 * level ≤ length free
       → ((i : ℕ) → i < at + 2 * level → fresh_in free i * 1024 + 1024 ≤ length s) → RightAsks w s num level lo hi k at free
   right-asked w ends enough room =
       record {

@@ -1,7 +1,7 @@
 -- What the chain of empty nodes asks, and its step lemmas. Relies on specs/Moving's `gap_write`.
-use Rattle.std.specs.Prelude.{ℕ, suc, ◌+◌, ◌*◌, ◌-◌, ◌<◌, ◌≤◌, ◌≡◌, refl, List, [], ◌++◌, length, drop}
+use Rattle.std.specs.Prelude.{ℕ, suc, ◌+◌, ◌*◌, ◌-◌, ◌<◌, ◌≤◌, ◌≡◌, refl, List, [], ◌++◌, length, drop, get_or}
 use Rattle.image.specs.Prelude.{sym, ap, ap₂, ◌∙◌, append-nil, arith, length-drop}
-use Rattle.image.specs.Bytes.{u16, u16_bytes, shared}
+use Rattle.image.specs.Bytes.{u16_bytes, shared}
 use Rattle.image.specs.Entry as defined
 use Rattle.image.specs.Image.{end, tree}
 use Rattle.octets.specs.Put.{put, put-nil}
@@ -19,10 +19,10 @@ pub record GapAsks (s : List ℕ) (level : ℕ) (lo : List ℕ) (at : ℕ) (free
   pub some : 1 ≤ level
   pub levels : level ≤ 8
   pub short : length lo ≤ 65
-  pub enough : (at + level) * 2 ≤ length free
+  pub enough : at + level ≤ length free
   pub room : (i : ℕ) → i < at + level → fresh_in free i * 1024 + 1024 ≤ length s
 
-module _ (s : List ℕ) (level : ℕ) (lo hi : List ℕ) (at : ℕ) (free : List ℕ) (pre : GapAsks s level lo at free) (new : ℕ) (en : new ≡ u16 free (at * 2)) where
+module _ (s : List ℕ) (level : ℕ) (lo hi : List ℕ) (at : ℕ) (free : List ℕ) (pre : GapAsks s level lo at free) (new : ℕ) (en : new ≡ get_or free at 0) where
   pub gap-new : new * 1024 + 1024 ≤ length s
   unfolding fresh_in
   gap-new = let r = pre.room at (let a = pre.some in omega arith) in omega arith
@@ -52,7 +52,7 @@ module _ (s : List ℕ) (level : ℕ) (lo hi : List ℕ) (at : ℕ) (free : List
           room = λ i b. let r = pre.room i (omega arith) in omega arith;
         }
 
-    module _ (d : ℕ) (ed : d ≡ length (shared lo hi)) (m : ℕ) (em : m ≡ u16 free ((at + 1) * 2)) where
+    module _ (d : ℕ) (ed : d ≡ length (shared lo hi)) (m : ℕ) (em : m ≡ get_or free (at + 1) 0) where
       pub gap-inner : (s₁ s₂ p : List ℕ) (e : ℕ) → s₁ ≡ gap_write (fresh_in free) (level - 1) lo hi (at + 1) s
           → p ≡ put (zeros_of 1024) 8 (bytes_of (defined.child m (drop d lo))) → e ≡ 8 + (6 + length (drop d lo))
           → s₂ ≡ put s₁ (new * 1024) (put (put (put p 0 (u16_bytes (e - 8))) 2 (u16_bytes 2)) 4 (u16_bytes level)) → s₂ ≡ gap_write (fresh_in free) level lo hi at s
@@ -64,7 +64,7 @@ module _ (s : List ℕ) (level : ℕ) (lo hi : List ℕ) (at : ℕ) (free : List
           let l = child-size m (drop d lo) in
           let k = length-drop d lo in
           let f = pre.short in
-          let child' : m ≡ fresh_in free (suc at) = em ∙ ap (λ n. u16 free (n * 2)) z ∙ later in
+          let child' : m ≡ fresh_in free (suc at) = em ∙ ap (λ n. get_or free n 0) z ∙ later in
           page-written s₁ s₂ p new 2 level e (bytes_of (defined.child m (drop d lo))) (omega arith) b (omega arith) q
           ∙ ap₂ (λ x n. write_node x n (page 2 level (bytes_of (defined.child m (drop d lo)))))
           (a ∙ ap₂ (λ i j. gap_write (fresh_in free) i lo hi j s) v z) number
@@ -72,7 +72,7 @@ module _ (s : List ℕ) (level : ℕ) (lo hi : List ℕ) (at : ℕ) (free : List
           ∙ ap (λ i. write_node (gap_write (fresh_in free) (suc (level - 2)) lo hi (suc at) s) (fresh_in free at) (page 2 (suc (suc (level - 2))) (bytes_of (defined.child (fresh_in free (suc at)) (drop i lo))))) ed
           ∙ shown (level - 2) ∙ ap (λ i. gap_write (fresh_in free) i lo hi at s) (sym w)
         where
-          later : u16 free (suc at * 2) ≡ fresh_in free (suc at)
+          later : get_or free (suc at) 0 ≡ fresh_in free (suc at)
           later = unfold fresh_in in refl
 
           entry : (h : ℕ) → bytes_of (defined.child (fresh_in free (suc at)) (drop (length (shared lo hi)) lo))

@@ -14,7 +14,7 @@ pub record LeftAsks (s : List ℕ) (num level : ℕ) (lo hi k : List ℕ) (at : 
   pub below : before k hi ≡ true
   pub few : nodes_of (length s) ≤ 1024
   pub levels : level ≤ 8
-  pub enough : (at + level) * 2 ≤ length free
+  pub enough : at + level ≤ length free
   pub room : (i : ℕ) → i < at + level → fresh_in free i * 1024 + 1024 ≤ length s
 
 unfoldable pub PointAsks : List ℕ → ℕ → List ℕ → ℕ → List ℕ → Point → Type 0

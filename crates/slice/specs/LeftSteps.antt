@@ -1,6 +1,6 @@
 -- Step lemmas of the left part: what is composed of a leaf and of an interior node, what the child that holds the cut is asked, and that
 -- the pages written are those of `left_write`. Relies on PointLaws and on specs/Slicing's laws of stripped pivots.
-use Rattle.std.specs.Prelude.{ℕ, zero, suc, ◌+◌, ◌*◌, ◌-◌, ◌≤◌, ◌≡◌, refl, List, [], ◌∷◌, ◌++◌, Bool, true, false, ◌&&◌, length, take, drop, leb}
+use Rattle.std.specs.Prelude.{ℕ, zero, suc, ◌+◌, ◌*◌, ◌-◌, ◌≤◌, ◌≡◌, refl, List, [], ◌∷◌, ◌++◌, Bool, true, false, ◌&&◌, length, take, drop, leb, get_or}
 use Rattle.image.specs.Prelude.{sym, ap, ap₂, subst, ◌∙◌, append-nil, false≢true, arith, length-append, drop_of_length-le, leb-true, lt-ltb}
 use Rattle.image.specs.Bytes.{u16, before, shared}
 use Rattle.image.specs.Table.{Row}
@@ -104,7 +104,7 @@ module _ (s : List ℕ) (num level : ℕ) (lo hi k : List ℕ) (at : ℕ) (free 
   pub left-level : 1 ≤ level
   left-level = some_level (nodes_of (length s)) level s num pre.reads
 
-  pub left-new : (new : ℕ) → new ≡ u16 free (at * 2) → new * 1024 + 1024 ≤ length s
+  pub left-new : (new : ℕ) → new ≡ get_or free at 0 → new * 1024 + 1024 ≤ length s
   unfolding fresh_in
   left-new new e = let r = pre.room at (let a = left-level in omega arith) in omega arith
 
@@ -139,14 +139,14 @@ module _ (s : List ℕ) (num level : ℕ) (lo hi k : List ℕ) (at : ℕ) (free 
           let b = ap length line-is in
           omega (arith, leb-true (pairs_size kept) 1016 a, pairs-size kept)
 
-      pub leaf-written : (new : ℕ) (s' : List ℕ) → new ≡ u16 free (at * 2) → s' ≡ write_node s new (page 1 1 (side_line true k d (listed node' 8 (8 + len))))
+      pub leaf-written : (new : ℕ) (s' : List ℕ) → new ≡ get_or free at 0 → s' ≡ write_node s new (page 1 1 (side_line true k d (listed node' 8 (8 + len))))
           → s' ≡ left_write (fresh_in free) (tree_at level s num) level lo hi k at s
       unfolding left_write page_of fresh_in
       leaf-written new s' e q =
           q
           ∙ ap₂ (λ n b. write_node s n (page 1 1 b)) e (sym line-is)
-          ∙ ap (λ h. write_node s (u16 free (at * 2)) (page 1 h (bytes_of_all (pair_entries kept)))) (sym (one-level (nodes_of (length s)) level s num leafy pre.reads))
-          ∙ ap (λ t. write_node s (u16 free (at * 2)) (page_of level t)) (sym (left-leaf-bare (fresh_in free) num leaf'.rs lo hi k at bare))
+          ∙ ap (λ h. write_node s (get_or free at 0) (page 1 h (bytes_of_all (pair_entries kept)))) (sym (one-level (nodes_of (length s)) level s num leafy pre.reads))
+          ∙ ap (λ t. write_node s (get_or free at 0) (page_of level t)) (sym (left-leaf-bare (fresh_in free) num leaf'.rs lo hi k at bare))
           ∙ ap (λ t. left_write (fresh_in free) t level lo hi k at s) (sym leaf'.tree)
 
     -- an interior node
@@ -208,10 +208,10 @@ module _ (s : List ℕ) (num level : ℕ) (lo hi k : List ℕ) (at : ℕ) (free 
       asks_of (between n low) h = tt
       asks_of (nowhere n) h = tt
 
-      module _ (c : Cut) (as-cut : CutAs node' hi (point_of 0 ks hi k) c) (m : ℕ) (em : m ≡ u16 free ((at + 1) * 2)) where
+      module _ (c : Cut) (as-cut : CutAs node' hi (point_of 0 ks hi k) c) (m : ℕ) (em : m ≡ get_or free (at + 1) 0) where
         number_is : m ≡ fresh_in free (suc at)
         unfolding fresh_in
-        number_is = let z : at + 1 ≡ suc at = omega arith in em ∙ ap (λ n. u16 free (n * 2)) z
+        number_is = let z : at + 1 ≡ suc at = omega arith in em ∙ ap (λ n. get_or free n 0) z
 
         line-is' : bytes_of_all (child_entries (lower (shared lo k) pieces)) ≡ left_line d m ks (point_in node' [] c)
         unfolding left_line
@@ -233,7 +233,7 @@ module _ (s : List ℕ) (num level : ℕ) (lo hi k : List ℕ) (at : ℕ) (free 
             (asks_of (point_of 0 ks hi k)
             (point-is (fresh_in free) under hi k (shared lo k) (nodes_of (length s)) (suc at) ks 0 usables pieces-fit))
 
-        pub inner-written : (new : ℕ) (s₁ s₂ : List ℕ) → new ≡ u16 free (at * 2)
+        pub inner-written : (new : ℕ) (s₁ s₂ : List ℕ) → new ≡ get_or free at 0
             → s₁ ≡ left_at (fresh_in free) under (level - 1) k (at + 1) s (point_in node' hi c)
             → s₂ ≡ write_node s₁ new (page 2 level (left_line d m ks (point_in node' [] c)))
             → s₂ ≡ left_write (fresh_in free) (tree_at level s num) level lo hi k at s
@@ -252,7 +252,7 @@ module _ (s : List ℕ) (num level : ℕ) (lo hi k : List ℕ) (at : ℕ) (free 
             ∙ shown f
             ∙ ap₂ (λ h t. left_write (fresh_in free) t h lo hi k at s) (sym w) (sym tree_is)
           where
-            own : u16 free (at * 2) ≡ fresh_in free at
+            own : get_or free at 0 ≡ fresh_in free at
             own = unfold fresh_in in refl
 
             shown : (f : Forest) → write_node (left_write_in (fresh_in free) (forest_of under ks) (level - 1) [] hi k (suc at) s) (fresh_in free at)

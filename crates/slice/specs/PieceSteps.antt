@@ -1,7 +1,7 @@
 -- Step lemmas of the pages of a right part. Relies on RightLaws and on octets' `put`.
-use Rattle.std.specs.Prelude.{ℕ, zero, suc, ◌+◌, ◌-◌, ◌*◌, ◌<◌, ◌≤◌, ◌≡◌, refl, List, [], ◌∷◌, ◌++◌, Bool, true, false, not, cond, length, take, drop, eqb}
+use Rattle.std.specs.Prelude.{ℕ, zero, suc, ◌+◌, ◌-◌, ◌*◌, ◌<◌, ◌≤◌, ◌≡◌, refl, List, [], ◌∷◌, ◌++◌, Bool, true, false, not, cond, length, take, drop, eqb, get_or}
 use Rattle.image.specs.Prelude.{sym, ap, ap₂, subst, ◌∙◌, append-nil, false≢true, true≢false, arith, length-append, drop_of_length-le, take_at, drop-drop, drop-nil, eq-eqb, ne_eqb}
-use Rattle.image.specs.Bytes.{u16, shared}
+use Rattle.image.specs.Bytes.{shared}
 use Rattle.image.specs.Entry as defined
 use Rattle.image.specs.Image.{Branch}
 use Rattle.octets.specs.Put.{put, put-put, put-size, front-is}
@@ -154,7 +154,7 @@ all-branches d ks h = line-all d 1024 ks (let a = all-long d ks in omega arith)
 
 -- TWO NODES
 module _ (size level : ℕ) (node : List ℕ) (start : Cursor) (d e : ℕ) (k : List ℕ) (below : Parts) (out : List ℕ) (at : ℕ) (free : List ℕ)
-    (pre : WideAsks size level node start d e k below out at free) (n m a b : ℕ) (en : n ≡ u16 free (at * 2)) (em : m ≡ u16 free ((at + 1) * 2))
+    (pre : WideAsks size level node start d e k below out at free) (n m a b : ℕ) (en : n ≡ get_or free at 0) (em : m ≡ get_or free (at + 1) 0)
     (ea : a ≡ fresh_in free (at + 2)) (eb : b ≡ fresh_in free (at + 2 + 1)) where
   rest-number : b ≡ fresh_in free (at + 3)
   rest-number = let z : at + 2 + 1 ≡ at + 3 = omega arith in eb ∙ ap (fresh_in free) z
@@ -188,7 +188,7 @@ module _ (size level : ℕ) (node : List ℕ) (start : Cursor) (d e : ℕ) (k : 
 
 -- ONE NODE
 module _ (size level : ℕ) (node : List ℕ) (start : Cursor) (hi k : List ℕ) (below : Parts) (out : List ℕ) (at : ℕ) (free : List ℕ)
-    (pre : NarrowAsks size level node start hi k below out at free) (n a b d : ℕ) (en : n ≡ u16 free (at * 2))
+    (pre : NarrowAsks size level node start hi k below out at free) (n a b d : ℕ) (en : n ≡ get_or free at 0)
     (ea : a ≡ fresh_in free (at + 1)) (eb : b ≡ fresh_in free (at + 1 + 1)) (ed : d ≡ length (shared k hi)) where
   last-number : b ≡ fresh_in free (at + 2)
   last-number = let z : at + 1 + 1 ≡ at + 2 = omega arith in eb ∙ ap (fresh_in free) z

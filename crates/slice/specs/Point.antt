@@ -1,7 +1,7 @@
 -- Where a cut falls among the children of an interior node, and the bytes of the parts' entries. Definitions only: pivots, cut and keys are
 -- told without what the node lifts. Relies on node's lists of entries and children.
-use Rattle.std.specs.Prelude.{ℕ, zero, suc, ◌+◌, ◌*◌, ◌≡◌, List, [], ◌∷◌, ◌++◌, Bool, true, false, not, cond, length, drop}
-use Rattle.image.specs.Bytes.{before, u16}
+use Rattle.std.specs.Prelude.{ℕ, zero, suc, ◌+◌, ◌≡◌, List, [], ◌∷◌, ◌++◌, Bool, true, false, not, cond, length, drop, get_or}
+use Rattle.image.specs.Bytes.{before}
 use Rattle.image.specs.Entry as defined
 use Rattle.image.specs.Image.{Tree, Branch}
 use Rattle.laws.specs.Encode.{bytes_of}
@@ -12,7 +12,7 @@ use Rattle.slice.specs.declared.Cut.{Cut}
 
 -- the i-th number of a list of free nodes
 unfoldable pub fresh_in : List ℕ → ℕ → ℕ
-fresh_in free i = u16 free (i * 2)
+fresh_in free i = get_or free i 0
 
 -- The first child that ends after the cut: the n-th. It holds the cut strictly inside, between its pivots, or starts at it or after it; or there is none.
 pub data Point : Type 0 where

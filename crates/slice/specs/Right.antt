@@ -109,7 +109,7 @@ pub record RightAsks (w : Bool) (s : List ℕ) (num level : ℕ) (lo hi k : List
   pub below : before k hi ≡ true
   pub few : nodes_of (length s) ≤ 1024
   pub levels : level ≤ 8
-  pub enough : (at + 2 * level) * 2 ≤ length free
+  pub enough : at + 2 * level ≤ length free
   pub room : (i : ℕ) → i < at + 2 * level → fresh_in free i * 1024 + 1024 ≤ length s
 
 unfoldable pub PointAsksRight : Bool → List ℕ → ℕ → List ℕ → ℕ → List ℕ → Point → Type 0
@@ -131,7 +131,7 @@ pub record EdgeAs (w : Bool) (level : ℕ) (k : List ℕ) (at : ℕ) (free s s' 
 -- what the two nodes of a level ask, and the one
 pub record WideAsks (size level : ℕ) (node : List ℕ) (start : Cursor) (d e : ℕ) (k : List ℕ) (below : Parts) (out : List ℕ) (at : ℕ) (free : List ℕ) : Type 0 where
   pub levels : level ≤ 8
-  pub enough : (at + 4) * 2 ≤ length free
+  pub enough : at + 4 ≤ length free
   pub room : (i : ℕ) → i < at + 4 → fresh_in free i * 1024 + 1024 ≤ size
   pub fit : PartsFit (length out) below
   pub ends : start.end ≤ length node
@@ -141,7 +141,7 @@ pub record WideAsks (size level : ℕ) (node : List ℕ) (start : Cursor) (d e :
 
 pub record NarrowAsks (size level : ℕ) (node : List ℕ) (start : Cursor) (hi k : List ℕ) (below : Parts) (out : List ℕ) (at : ℕ) (free : List ℕ) : Type 0 where
   pub levels : level ≤ 8
-  pub enough : (at + 3) * 2 ≤ length free
+  pub enough : at + 3 ≤ length free
   pub room : (i : ℕ) → i < at + 3 → fresh_in free i * 1024 + 1024 ≤ size
   pub fit : PartsFit (length out) below
   pub ends : start.end ≤ length node

@@ -1,6 +1,6 @@
 -- Step lemmas of the right part: what is composed of a leaf and of an interior node, what the child that holds the cut is asked, and that
 -- the pages written are those of `right_write`. Relies on RightPieces, RightLaws and on specs/Slicing's laws of stripped pivots.
-use Rattle.std.specs.Prelude.{ℕ, zero, suc, ◌+◌, ◌*◌, ◌-◌, ◌≤◌, ◌≡◌, refl, List, [], ◌∷◌, ◌++◌, Bool, true, false, ◌&&◌, length, take, drop, leb}
+use Rattle.std.specs.Prelude.{ℕ, zero, suc, ◌+◌, ◌*◌, ◌-◌, ◌≤◌, ◌≡◌, refl, List, [], ◌∷◌, ◌++◌, Bool, true, false, ◌&&◌, length, take, drop, leb, get_or}
 use Rattle.image.specs.Prelude.{sym, ap, ap₂, subst, ◌∙◌, false≢true, arith, length-append, take-append_seam, leb-true}
 use Rattle.image.specs.Bytes.{u16, before, shared}
 use Rattle.image.specs.Table.{Row, under_prefix}
@@ -53,7 +53,7 @@ module _ (w : Bool) (s : List ℕ) (num level : ℕ) (lo hi k : List ℕ) (at : 
   pub right-level : 1 ≤ level
   right-level = some_level (nodes_of (length s)) level s num pre.reads
 
-  pub right_new : (new : ℕ) → new ≡ u16 free (at * 2) → new * 1024 + 1024 ≤ length s
+  pub right_new : (new : ℕ) → new ≡ get_or free at 0 → new * 1024 + 1024 ≤ length s
   unfolding fresh_in
   right_new new e = let r = pre.room at (let a = right-level in omega arith) in omega arith
 
@@ -88,20 +88,20 @@ module _ (w : Bool) (s : List ℕ) (num level : ℕ) (lo hi k : List ℕ) (at : 
           let b = ap length line-is in
           omega (arith, leb-true (pairs_size kept) 1016 (and_left (leb (pairs_size kept) 1016) _ a), pairs-size kept)
 
-      leaf-written : (new : ℕ) (s' : List ℕ) → new ≡ u16 free (at * 2) → s' ≡ write_node s new (page 1 1 (side_line false k d (listed node' 8 (8 + len))))
+      leaf-written : (new : ℕ) (s' : List ℕ) → new ≡ get_or free at 0 → s' ≡ write_node s new (page 1 1 (side_line false k d (listed node' 8 (8 + len))))
           → s' ≡ right_write (fresh_in free) w (tree_at level s num) level lo hi k at s
       unfolding fresh_in
       leaf-written new s' e q =
           q
           ∙ ap₂ (λ n b. write_node s n (page 1 1 b)) e (sym line-is)
-          ∙ ap (λ h. write_node s (u16 free (at * 2)) (page 1 h (bytes_of_all (pair_entries kept)))) (sym (one-level (nodes_of (length s)) level s num leafy pre.reads))
+          ∙ ap (λ h. write_node s (get_or free at 0) (page 1 h (bytes_of_all (pair_entries kept)))) (sym (one-level (nodes_of (length s)) level s num leafy pre.reads))
           ∙ shown
           ∙ ap (λ t. right_write (fresh_in free) w t level lo hi k at s) (sym leaf'.tree)
         where
-          shown : write_node s (u16 free (at * 2)) (page 1 level (bytes_of_all (pair_entries kept))) ≡ right_write (fresh_in free) w (leaf num leaf'.rs) level lo hi k at s
+          shown : write_node s (get_or free at 0) (page 1 level (bytes_of_all (pair_entries kept))) ≡ right_write (fresh_in free) w (leaf num leaf'.rs) level lo hi k at s
           shown = unfold right_write page_of fresh_in in rw (bare, under_none leaf'.rs)
 
-      pub leaf-done : (lift out : List ℕ) (new : ℕ) (s' : List ℕ) → new ≡ u16 free (at * 2) → s' ≡ write_node s new (page 1 1 (side_line false k d (listed node' 8 (8 + len))))
+      pub leaf-done : (lift out : List ℕ) (new : ℕ) (s' : List ℕ) → new ≡ get_or free at 0 → s' ≡ write_node s new (page 1 1 (side_line false k d (listed node' 8 (8 + len))))
           → RightAs w (tree_at level s num) level lo hi k at free lift s s' out Parts.Edge
       leaf-done lift out new s' e q =
           record {

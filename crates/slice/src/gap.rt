@@ -7,17 +7,17 @@ ghost use Rattle.slice.specs.GapSteps.{GapAsks};
 
 use node::writer;
 
-pub fn write_gap(store: &mut [u8], level: usize, lo: &[u8], hi: &[u8], at: usize, free: &[u8])
+pub fn write_gap(store: &mut [u8], level: usize, lo: &[u8], hi: &[u8], at: usize, free: &[u16])
     requires { GapAsks store.old level lo.now at free.now }
     ensures { store.new ≡ gap_write (fresh_in free.now) level lo.now hi.now at store.old }
 {
-    let new = octets::u16_at(free, at * 2);
+    let new = free[at] as usize;
     let mut page = [0u8; 1024];
     if level <= 1 {
         writer::write_page(store, new, &mut page, image::LEAF, 1, 0);
         return;
     }
-    let child = octets::u16_at(free, (at + 1) * 2);
+    let child = free[at + 1] as usize;
     let d = octets::common_length(lo, hi);
     let end = writer::write_child(&mut page, image::ENTRIES_AT, child, &lo[d..]);
     write_gap(store, level - 1, lo, hi, at + 1, free);

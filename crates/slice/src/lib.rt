@@ -66,7 +66,7 @@ pub fn slice_left(
     lo: &[u8],
     hi: &[u8],
     k: &[u8],
-    free: &[u8],
+    free: &[u16],
 )
     requires { LeftAsks store.old num slot.level lo.now hi.now k.now slot.at free.now × (shared lo.now hi.now ≡ []) }
     ensures { store.new
@@ -78,7 +78,7 @@ pub fn slice_left(
     let mut node = [0u8; 1024];
     read_node(store, num, &mut node);
     let len = octets::u16_at(&node, 0);
-    let new = octets::u16_at(free, at * 2);
+    let new = free[at] as usize;
     let d = octets::common_length(lo, k);
     if level <= 1 {
         pairs::write_pairs(store, new, &node, image::ENTRIES_AT + len, true, k, d);
@@ -86,7 +86,7 @@ pub fn slice_left(
     }
     let cut = point::find_point(&node, image::ENTRIES_AT + len, hi, k);
     let next = at + 1;
-    let child = octets::u16_at(free, next * 2);
+    let child = free[next] as usize;
     let mut page = [0u8; 1024];
     let end = branches::emit_left(&mut page, &node, image::ENTRIES_AT + len, cut, d, child);
     let down = level - 1;
@@ -107,7 +107,7 @@ pub fn slice_left(
 
 // The part before the cut of the child that holds it, if there is one.
 #[cycle(slice_cut_slice_left)]
-fn slice_cut(store: &mut [u8], node: &[u8], cut: Cut, slot: Slot, hi: &[u8], k: &[u8], free: &[u8])
+fn slice_cut(store: &mut [u8], node: &[u8], cut: Cut, slot: Slot, hi: &[u8], k: &[u8], free: &[u16])
     requires { CutFits (length node.now) cut × PointAsks store.old slot.level k.now slot.at free.now (point_in node.now hi.now cut) }
     ensures { store.new
         ≡ left_at (fresh_in free.now) (λ j. tree_at slot.level store.old j) slot.level k.now slot.at

@@ -68,16 +68,16 @@ struct Lifts {
 }
 
 // The pieces of a child with the numbers that they take: the edge's at a place of the list of free nodes, the rest's behind it.
-fn number_pieces(parts: Parts, free: &[u8], at: usize) -> Numbered
-    requires { (at + 2) * 2 ≤ length free.now }
+fn number_pieces(parts: Parts, free: &[u16], at: usize) -> Numbered
+    requires { at + 2 ≤ length free.now }
     ensures { (result.parts ≡ parts)
         × (result.edge ≡ fresh_in free.now at)
         × (result.rest ≡ fresh_in free.now (at + 1))
         × (result.edge < 65536)
         × (result.rest < 65536) }
 {
-    let edge = octets::u16_at(free, at * 2);
-    let rest = octets::u16_at(free, (at + 1) * 2);
+    let edge = free[at] as usize;
+    let rest = free[at + 1] as usize;
     Numbered { parts, edge, rest }
 }
 
@@ -90,7 +90,7 @@ fn write_wide(
     node: &[u8],
     k: &[u8],
     out: &[u8],
-    free: &[u8],
+    free: &[u16],
 )
     requires { WideAsks (length store.old) tree.level node.now layer.start lifts.edge lifts.rest k.now layer.below out.now tree.at free.now }
     ensures { store.new
@@ -100,8 +100,8 @@ fn write_wide(
 {
     let at = tree.at;
     let start = layer.start;
-    let n = octets::u16_at(free, at * 2);
-    let m = octets::u16_at(free, (at + 1) * 2);
+    let n = free[at] as usize;
+    let m = free[at + 1] as usize;
     let below = layer.below;
     let pieces = number_pieces(below, free, at + 2);
     let edge = New {
@@ -148,7 +148,7 @@ fn write_both(
     hi: &[u8],
     k: &[u8],
     out: &[u8],
-    free: &[u8],
+    free: &[u16],
 )
     requires { WideReady (length store.old) tree.level node.now layer.start hi.now k.now layer.below out.now tree.at free.now }
     ensures { store.new
@@ -195,7 +195,7 @@ fn finish_narrow(
     hi: &[u8],
     k: &[u8],
     out: &[u8],
-    free: &[u8],
+    free: &[u16],
 ) -> Parts
     requires { NarrowAsks (length store.old) tree.level node.now layer.start hi.now k.now layer.below out.now tree.at free.now }
     ensures { (store.new
@@ -211,7 +211,7 @@ fn finish_narrow(
     let level = tree.level;
     let at = tree.at;
     let start = layer.start;
-    let n = octets::u16_at(free, at * 2);
+    let n = free[at] as usize;
     let below = layer.below;
     let pieces = number_pieces(below, free, at + 1);
     let d = octets::common_length(k, hi);
@@ -250,7 +250,7 @@ pub fn slice_right(
     tree: Sliced,
     hi: &[u8],
     k: &[u8],
-    free: &[u8],
+    free: &[u16],
     lift: &[u8],
     out: &mut [u8],
 ) -> Parts
@@ -269,7 +269,7 @@ pub fn slice_right(
     crate::read_node(store, tree.num, &mut node);
     let len = octets::u16_at(&node, 0);
     if level <= 1 {
-        let new = octets::u16_at(free, at * 2);
+        let new = free[at] as usize;
         let d = octets::common_length(k, hi);
         pairs::write_pairs(store, new, &node, image::ENTRIES_AT + len, false, k, d);
         return Parts::Edge;
@@ -308,7 +308,7 @@ fn right_cut(
     split: Split,
     hi: &[u8],
     k: &[u8],
-    free: &[u8],
+    free: &[u16],
     out: &mut [u8],
 ) -> Parts
     requires { CutFits (length node.now) split.cut

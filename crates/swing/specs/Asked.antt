@@ -1,8 +1,8 @@
 -- The plan of a swing from what it asks: the laws of slice/Moving, with the list of free nodes as the code reads it; and its image as `swung_with`.
 -- Relies on slice/Moving's laws of the supply of free nodes.
-use Rattle.std.specs.Prelude.{ℕ, zero, suc, ◌+◌, ◌*◌, ◌-◌, ◌/◌, ◌≤◌, ◌<◌, ◌≡◌, refl, List, [], Bool, true, false, length, get_or, take, drop, leb}
+use Rattle.std.specs.Prelude.{ℕ, zero, suc, ◌+◌, ◌*◌, ◌-◌, ◌≤◌, ◌<◌, ◌≡◌, refl, List, [], Bool, true, false, length, get_or, take, drop, leb}
 use Rattle.image.specs.Prelude.{sym, ap, ap₂, subst, ◌∙◌, arith, take_at, leb-true, leb-false}
-use Rattle.image.specs.Bytes.{u16, before}
+use Rattle.image.specs.Bytes.{before}
 use Rattle.image.specs.Path.{well_formed}
 use Rattle.image.specs.Image.{node_bytes, nodes_of, header_of, tree_of}
 use Rattle.image.specs.Sound.{table_of, highest, numbers, is_in}
@@ -34,45 +34,41 @@ use Rattle.swing.specs.Plan.{SwingAsks, Swings, under_low, under_high, taken, ta
 use Rattle.laws.specs.Page.{head_page}
 
 -- THE LIST OF FREE NODES, as the laws and as the code read it
-listed-get : (k : ℕ) (bytes : List ℕ) (i j : ℕ) → j < k → get_or (listed k bytes i) j 0 ≡ u16 bytes ((i + j) * 2)
+listed-get : (k : ℕ) (given : List ℕ) (i j : ℕ) → j < k → get_or (listed k given i) j 0 ≡ get_or given (i + j) 0
 unfolding listed
-listed-get zero bytes i j h = absurd (omega arith)
-listed-get (suc k) bytes i zero h = let e : i + zero ≡ i = omega arith in ap (λ n. u16 bytes (n * 2)) (sym e)
-listed-get (suc k) bytes i (suc j) h = let e : suc i + j ≡ i + suc j = omega arith in listed-get k bytes (suc i) j (omega arith) ∙ ap (λ n. u16 bytes (n * 2)) e
+listed-get zero given i j h = absurd (omega arith)
+listed-get (suc k) given i zero h = let e : i + zero ≡ i = omega arith in ap (λ n. get_or given n 0) (sym e)
+listed-get (suc k) given i (suc j) h = let e : suc i + j ≡ i + suc j = omega arith in listed-get k given (suc i) j (omega arith) ∙ ap (λ n. get_or given n 0) e
 
-listed-past : (k : ℕ) (bytes : List ℕ) (i j : ℕ) → k ≤ j → get_or (listed k bytes i) j 0 ≡ 0
+listed-past : (k : ℕ) (given : List ℕ) (i j : ℕ) → k ≤ j → get_or (listed k given i) j 0 ≡ 0
 unfolding listed
-listed-past zero bytes i j h = refl
-listed-past (suc k) bytes i zero h = absurd (omega arith)
-listed-past (suc k) bytes i (suc j) h = listed-past k bytes (suc i) j (omega arith)
+listed-past zero given i j h = refl
+listed-past (suc k) given i zero h = absurd (omega arith)
+listed-past (suc k) given i (suc j) h = listed-past k given (suc i) j (omega arith)
 
-u16-past : (bytes : List ℕ) (i : ℕ) → length bytes ≤ i → u16 bytes i ≡ 0
-unfolding u16
-u16-past bytes i h = let a = get-past bytes i h in let b = get-past bytes (i + 1) (omega arith) in omega arith
-
-pub fresh_at : (free : List ℕ) → 2 * (length free / 2) ≡ length free → (i : ℕ) → from_list (handed free) i ≡ fresh_in free i
+pub fresh_at : (free : List ℕ) (i : ℕ) → from_list (handed free) i ≡ fresh_in free i
 unfolding handed handed_from fresh_in
-fresh_at free even i = go (leb (length free / 2 - 0) i) refl
+fresh_at free i = go (leb (length free - 0) i) refl
   where
-    go : (b : Bool) → leb (length free / 2 - 0) i ≡ b → get_or (listed (length free / 2 - 0) free 0) i 0 ≡ u16 free (i * 2)
+    go : (b : Bool) → leb (length free - 0) i ≡ b → get_or (listed (length free - 0) free 0) i 0 ≡ get_or free i 0
     go true e =
-        let far : length free / 2 - 0 ≤ i = leb-true (length free / 2 - 0) i e in
-        listed-past (length free / 2 - 0) free 0 i far ∙ sym (u16-past free (i * 2) (omega arith))
+        let far : length free - 0 ≤ i = leb-true (length free - 0) i e in
+        listed-past (length free - 0) free 0 i far ∙ sym (get-past free i (omega arith))
     go false e =
-        let near : i < length free / 2 - 0 = leb-false (length free / 2 - 0) i e in
+        let near : i < length free - 0 = leb-false (length free - 0) i e in
         let z : 0 + i ≡ i = omega arith in
-        listed-get (length free / 2 - 0) free 0 i near ∙ ap (λ n. u16 free (n * 2)) z
+        listed-get (length free - 0) free 0 i near ∙ ap (λ n. get_or free n 0) z
 
-pub fresh-is : (free : List ℕ) → 2 * (length free / 2) ≡ length free → ◌≡◌ {A = ℕ → ℕ} (from_list (handed free)) (fresh_in free)
-fresh-is free even = λ d i. fresh_at free even i d
+pub fresh-is : (free : List ℕ) → ◌≡◌ {A = ℕ → ℕ} (from_list (handed free)) (fresh_in free)
+fresh-is free = λ d i. fresh_at free i d
 
-pub handed-many : (free : List ℕ) → length (handed free) ≡ length free / 2
+pub handed-many : (free : List ℕ) → length (handed free) ≡ length free
 unfolding handed handed_from
-handed-many free = let e : length free / 2 - 0 ≡ length free / 2 = omega arith in listed-length (length free / 2 - 0) free 0 ∙ e
+handed-many free = let e : length free - 0 ≡ length free = omega arith in listed-length (length free - 0) free 0 ∙ e
 
 module _ (s free from to : List ℕ) (k : SwingAsks s free from to) where
   fresh-eq : ◌≡◌ {A = ℕ → ℕ} (from_list (handed free)) (fresh_in free)
-  fresh-eq = fresh-is free k.even
+  fresh-eq = fresh-is free
 
   once-x : (j : ℕ) → met j (tree_of s) + spent (from_list (handed free)) j (suc (10 * (header_of s).levels)) 0 ≤ 1
   once-x j = omega (arith, supply s (handed free) k.is_sound k.supply j, supply-spent s (handed free) k.is_sound k.supply j (suc (10 * (header_of s).levels)) (omega arith))
@@ -106,7 +102,7 @@ module _ (s free from to : List ℕ) (k : SwingAsks s free from to) where
           low = k.low;
           some = omega (arith, (some_level (tree_of s) (header_of s).levels (image-good s k.is_sound k.is_settled).level).1);
           whole = k.whole;
-          enough = omega (arith, k.supply.enough, handed-many free, k.even);
+          enough = omega (arith, k.supply.enough, handed-many free);
           root_fits = fit;
         }
       where

@@ -1,6 +1,6 @@
 -- The swing from its steps: what each call in it asks, and that the image at its end is slice/Moving's.
 -- Relies on Steps (what the plan gives), RootLaws (the new root's page) and laws' Page (node 0).
-use Rattle.std.specs.Prelude.{ℕ, suc, ◌+◌, ◌*◌, ◌-◌, ◌/◌, ◌≤◌, ◌<◌, ◌≡◌, refl, List, [], Bool, length}
+use Rattle.std.specs.Prelude.{ℕ, suc, ◌+◌, ◌*◌, ◌-◌, ◌/◌, ◌≤◌, ◌<◌, ◌≡◌, refl, List, [], Bool, length, get_or}
 use Rattle.image.specs.Prelude.{sym, ap, ap₂, subst, ◌∙◌, arith}
 use Rattle.image.specs.Bytes.{u16}
 use Rattle.image.specs.Image.{nodes_of, header_of, tree_of}
@@ -153,7 +153,7 @@ module _ (s free bound limit : List ℕ) (up : Bool) (B : PastPlan s free bound 
   pub some-levels : 1 ≤ h
   some-levels = omega (arith, levels-are, B.plan.some)
 
-  pub enough-free : (10 * h + 1) * 2 ≤ length free
+  pub enough-free : 10 * h + 1 ≤ length free
   enough-free = omega (arith, levels-are, B.plan.enough)
 
   pub cuts_asked : BothAsks s h bound limit free
@@ -176,7 +176,7 @@ module _ (s free bound limit : List ℕ) (up : Bool) (B : PastPlan s free bound 
 
         pub swung-done : (s₉ s₁₀ : List ℕ) (num live : ℕ)
             → s₉ ≡ write_node s₈ (fresh_in free (10 * h)) (page 2 (h + 1) (root_line (fresh_in free (7 * h)) bound lower low limit higher high))
-            → num ≡ u16 free (10 * h * 2) → live ≡ u16 s 10 → s₁₀ ≡ write_node s₉ 0 (head_page (length s₉ / 1024) num (h + 1) live)
+            → num ≡ get_or free (10 * h) 0 → live ≡ u16 s 10 → s₁₀ ≡ write_node s₉ 0 (head_page (length s₉ / 1024) num (h + 1) live)
             → s₁₀ ≡ swung_over s free bound limit up
         swung-done s₉ s₁₀ num live w en el q =
             told

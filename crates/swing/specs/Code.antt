@@ -1,5 +1,5 @@
 -- The steps of the code of a swing, one law for each call and each way out. Relies on Cuts and Root (what is asked and written) and on octets' Put.
-use Rattle.std.specs.Prelude.{ℕ, ◌+◌, ◌*◌, ◌-◌, ◌≤◌, ◌<◌, ◌≡◌, refl, List, [], ◌∷◌, ◌++◌, Bool, true, false, length, take, drop, set}
+use Rattle.std.specs.Prelude.{ℕ, ◌+◌, ◌*◌, ◌-◌, ◌≤◌, ◌<◌, ◌≡◌, refl, List, [], ◌∷◌, ◌++◌, Bool, true, false, length, take, drop, set, get_or}
 use Rattle.image.specs.Prelude.{sym, ap, ap₂, subst, ◌∙◌, arith, length-append}
 use Rattle.image.specs.Bytes.{u16, u16_bytes}
 use Rattle.image.specs.Entry.{child}
@@ -48,7 +48,7 @@ module _ (s : List ℕ) (num h : ℕ) (hi bound : List ℕ) (at : ℕ) (free : L
   pub then-right : RightAsks true s₁ num h [] hi bound (at + h) free
   then-right = subst (λ x. RightAsks true x num h [] hi bound (at + h) free) first-is pre.right
 
-  module _ (s₂ out : List ℕ) (r : Parts) (a : RightAs true (tree_at h s₁ num) h [] hi bound (at + h) free [] s₁ s₂ out r) (inner : ℕ) (n : inner ≡ u16 free (at * 2)) where
+  module _ (s₂ out : List ℕ) (r : Parts) (a : RightAs true (tree_at h s₁ num) h [] hi bound (at + h) free [] s₁ s₂ out r) (inner : ℕ) (n : inner ≡ get_or free at 0) where
     second_is : right_in s num h hi bound at free ≡ s₂
     unfolding right_in
     second_is = ap (λ x. right_write (fresh_in free) true (tree_at h x num) h [] hi bound (at + h) x) first-is ∙ sym a.written
@@ -90,7 +90,7 @@ module _ (s : List ℕ) (h : ℕ) (bound limit free : List ℕ) (pre : BothAsks 
   pub high-asked : RangeAsks s root h highest limit 0 free
   high-asked = subst (λ i. RangeAsks s i h highest limit 0 free) root_is pre.higher
 
-  module _ (s₁ high : List ℕ) (x : Parts) (a : RangeAs s root h highest limit 0 free s₁ high x) (inner : ℕ) (m : inner ≡ u16 free (3 * h * 2)) where
+  module _ (s₁ high : List ℕ) (x : Parts) (a : RangeAs s root h highest limit 0 free s₁ high x) (inner : ℕ) (m : inner ≡ get_or free (3 * h) 0) where
     high-in : RangeAs s (header_of s).root h highest limit 0 free s₁ high x
     high-in = subst (λ i. RangeAs s i h highest limit 0 free s₁ high x) (sym root_is) a
 
@@ -142,19 +142,19 @@ module _ (s : List ℕ) (num h : ℕ) (bound free : List ℕ) (pre : OutAsks s n
     out-done s₂ w = w ∙ ap₂ (λ q x. gap_write (fresh_in free) h q bound (9 * h) x) (front-part bound) (sym tail-in)
 
 module _ (s : List ℕ) (h : ℕ) (bound limit free : List ℕ) (up : Bool) (pre : TakeAsks s h bound limit free up) (num : ℕ) where
-  pub up-asked : up ≡ true → num ≡ u16 free (4 * h * 2) → OutAsks s num h bound free
+  pub up-asked : up ≡ true → num ≡ get_or free (4 * h) 0 → OutAsks s num h bound free
   unfolding taken_number taken_bound fresh_in
   up-asked e n = subst (λ i. OutAsks s i h bound free) (sym n) (rw e at pre.out)
 
-  pub up_done : (s' : List ℕ) → up ≡ true → num ≡ u16 free (4 * h * 2) → s' ≡ out_in s num h bound free → s' ≡ taken_out s h bound limit free up
+  pub up_done : (s' : List ℕ) → up ≡ true → num ≡ get_or free (4 * h) 0 → s' ≡ out_in s num h bound free → s' ≡ taken_out s h bound limit free up
   unfolding taken_out taken_number taken_bound fresh_in
   up_done s' e n w = rw e (w ∙ ap (λ i. out_in s i h bound free) n)
 
-  pub down-asked : up ≡ false → num ≡ u16 free 0 → OutAsks s num h limit free
+  pub down-asked : up ≡ false → num ≡ get_or free 0 0 → OutAsks s num h limit free
   unfolding taken_number taken_bound fresh_in
   down-asked e n = subst (λ i. OutAsks s i h limit free) (sym n) (rw e at pre.out)
 
-  pub down-done : (s' : List ℕ) → up ≡ false → num ≡ u16 free 0 → s' ≡ out_in s num h limit free → s' ≡ taken_out s h bound limit free up
+  pub down-done : (s' : List ℕ) → up ≡ false → num ≡ get_or free 0 0 → s' ≡ out_in s num h limit free → s' ≡ taken_out s h bound limit free up
   unfolding taken_out taken_number taken_bound fresh_in
   down-done s' e n w = rw e (w ∙ ap (λ i. out_in s i h limit free) n)
 
@@ -167,7 +167,7 @@ unfolding low_place
 place_down h up e = (rw e, omega arith, omega arith)
 
 -- THE ROOT'S PAGE
-pub half-made : (free : List ℕ) (place block : ℕ) (parts : Parts) (a b c : ℕ) → a ≡ u16 free (place * 2) → b ≡ u16 free (block * 2) → c ≡ u16 free ((block + 1) * 2)
+pub half-made : (free : List ℕ) (place block : ℕ) (parts : Parts) (a b c : ℕ) → a ≡ get_or free place 0 → b ≡ get_or free block 0 → c ≡ get_or free (block + 1) 0
     → ◌≡◌ {A = Half} (record { number = a; edge = b; rest = c; parts = parts }) (half_in free place block parts)
 unfolding half_in fresh_in
 half-made free place block parts a b c x y z = λ i. record { number = x i; edge = y i; rest = z i; parts = parts }
@@ -208,7 +208,7 @@ module _ (pg bound : List ℕ) (half : Half) (out : List ℕ) (at : ℕ) (room :
         (let l = line-size in omega arith) put-path past-path x y
 
 module _ (s : List ℕ) (h : ℕ) (bound limit free : List ℕ) (low : Half) (behind : List ℕ) (high : Half) (last : List ℕ) (pre : RootAsks s h bound limit free low behind high last)
-    (left num : ℕ) (left_is : left ≡ u16 free (7 * h * 2)) (num-is : num ≡ u16 free (10 * h * 2)) where
+    (left num : ℕ) (left_is : left ≡ get_or free (7 * h) 0) (num-is : num ≡ get_or free (10 * h) 0) where
   left-in : fresh_in free (7 * h) ≡ left
   unfolding fresh_in
   left-in = sym left_is

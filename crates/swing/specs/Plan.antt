@@ -1,5 +1,5 @@
 -- The swing as a function on images, for both directions at once; what it asks of a store; and what its steps rely on. Definitions only.
-use Rattle.std.specs.Prelude.{ℕ, suc, ◌+◌, ◌*◌, ◌/◌, ◌≤◌, ◌<◌, ◌≡◌, List, [], Bool, true, false, cond, length}
+use Rattle.std.specs.Prelude.{ℕ, suc, ◌+◌, ◌*◌, ◌≤◌, ◌<◌, ◌≡◌, List, [], Bool, true, false, cond, length}
 use Rattle.image.specs.Bytes.{before, begins}
 use Rattle.image.specs.Entry.{pivot_limit}
 use Rattle.image.specs.Path.{well_formed}
@@ -28,7 +28,6 @@ pub record SwingAsks (s free from to : List ℕ) : Type 0 where
   pub is_sound : sound s ≡ true
   pub is_settled : settled s ≡ true
   pub low : (header_of s).levels ≤ 7
-  pub even : 2 * (length free / 2) ≡ length free
   pub supply : Free s (handed free)
   pub formed_from : well_formed from ≡ true
   pub formed_to : well_formed to ≡ true
@@ -80,7 +79,7 @@ pub record Plan (s free p r : List ℕ) (up : Bool) : Type 0 where
   pub low : (header_of s).levels ≤ 7
   pub some : 1 ≤ (header_of s).levels
   pub whole : whole_nodes (length s) ≡ true
-  pub enough : (10 * (header_of s).levels + 1) * 2 ≤ length free
+  pub enough : 10 * (header_of s).levels + 1 ≤ length free
   pub root_fits : fits (root_over (fresh_in free) (header_of s).levels (tree_of s) p r (under_low (fresh_in free) (header_of s).levels (tree_of s) p r up)
       (under_high (fresh_in free) (header_of s).levels (tree_of s) p r up)) ≡ true
 

@@ -27,7 +27,7 @@ pub record HalfFits (bound : List ℕ) (half : Half) (out : List ℕ) : Type 0 w
 
 pub record RootAsks (s : List ℕ) (h : ℕ) (bound limit free : List ℕ) (low : Half) (behind : List ℕ) (high : Half) (last : List ℕ) : Type 0 where
   pub levels : h ≤ 8
-  pub enough : (10 * h + 1) * 2 ≤ length free
+  pub enough : 10 * h + 1 ≤ length free
   pub room : fresh_in free (10 * h) * 1024 + 1024 ≤ length s
   pub lower : HalfFits bound low behind
   pub higher : HalfFits limit high last

@@ -46,7 +46,7 @@ fn cut_range(
     slot: Slot,
     hi: &[u8],
     bound: &[u8],
-    free: &[u8],
+    free: &[u16],
     out: &mut [u8],
 ) -> Parts
     requires { RangeAsks store.old num slot.level hi.now bound.now slot.at free.now × (length out.old ≡ 1089) }
@@ -56,7 +56,7 @@ fn cut_range(
     let at = slot.at;
     let beside = at + h;
     let below = at + 3 * h;
-    let inner = octets::u16_at(free, at * 2);
+    let inner = free[at] as usize;
     let n = bound.len() - 1;
     slice::slice_left(store, num, slot, &bound[0..0], hi, bound, free);
     let right = Sliced {
@@ -80,7 +80,7 @@ fn cut_both(
     h: usize,
     bound: &[u8],
     limit: &[u8],
-    free: &[u8],
+    free: &[u16],
     low: &mut [u8],
     high: &mut [u8],
 ) -> Cuts
@@ -88,7 +88,7 @@ fn cut_both(
     ensures { BothAs store.old h bound.now limit.now free.now store.new low.new high.new result }
 {
     let root = node::header::read_root(store);
-    let inner = octets::u16_at(free, 3 * h * 2);
+    let inner = free[3 * h] as usize;
     let n = limit.len() - 1;
     let top = [255u8; 1];
     let right = cut_range(
@@ -117,7 +117,7 @@ fn cut_both(
 }
 
 // A range as one tree, and an empty chain for the place that it leaves.
-fn take_out(store: &mut [u8], num: usize, h: usize, bound: &[u8], free: &[u8])
+fn take_out(store: &mut [u8], num: usize, h: usize, bound: &[u8], free: &[u16])
     requires { OutAsks store.old num h bound.now free.now }
     ensures { store.new ≡ out_in store.old num h bound.now free.now }
 {
@@ -144,16 +144,16 @@ fn take_out(store: &mut [u8], num: usize, h: usize, bound: &[u8], free: &[u8])
 }
 
 // Takes out the range that moves: the lower one where the move goes up.
-fn take_range(store: &mut [u8], h: usize, bound: &[u8], limit: &[u8], free: &[u8], up: bool)
+fn take_range(store: &mut [u8], h: usize, bound: &[u8], limit: &[u8], free: &[u16], up: bool)
     requires { TakeAsks store.old h bound.now limit.now free.now up }
     ensures { store.new ≡ taken_out store.old h bound.now limit.now free.now up }
 {
     if up {
-        let lower = octets::u16_at(free, 4 * h * 2);
+        let lower = free[4 * h] as usize;
         take_out(store, lower, h, bound, free);
         return;
     }
-    let higher = octets::u16_at(free, 0);
+    let higher = free[0] as usize;
     take_out(store, higher, h, limit, free);
 }
 
@@ -169,13 +169,13 @@ fn low_place(h: usize, up: bool) -> usize
 }
 
 // The swing, told by the ends of the two ranges.
-fn swing_between(store: &mut [u8], free: &[u8], bound: &[u8], limit: &[u8], up: bool)
+fn swing_between(store: &mut [u8], free: &[u16], bound: &[u8], limit: &[u8], up: bool)
     requires { PastPlan store.old free.now bound.now limit.now up }
     ensures { store.new ≡ swung_over store.old free.now bound.now limit.now up }
 {
     let h = node::header::read_levels(store);
     let live = node::header::read_live(store);
-    let num = octets::u16_at(free, 10 * h * 2);
+    let num = free[10 * h] as usize;
     let place = low_place(h, up);
     let mut low = [0u8; 1089];
     let mut high = [0u8; 1089];
@@ -195,7 +195,7 @@ fn swing_between(store: &mut [u8], free: &[u8], bound: &[u8], limit: &[u8], up: 
 }
 
 // The same, told by the two paths, the lower one first.
-fn swing_over(store: &mut [u8], free: &[u8], p: &[u8], r: &[u8], up: bool)
+fn swing_over(store: &mut [u8], free: &[u16], p: &[u8], r: &[u8], up: bool)
     requires { Plan store.old free.now p.now r.now up }
     ensures { store.new ≡ swung_over store.old free.now (past p.now) (past r.now) up }
 {
@@ -210,7 +210,7 @@ fn swing_over(store: &mut [u8], free: &[u8], p: &[u8], r: &[u8], up: bool)
 
 // What is below `from` comes below `to`, by at most 10 × L + 2 nodes: no node that was reachable is written but node 0, whose live count
 // is still the old one.
-pub fn swing(store: &mut [u8], free: &[u8], from: &[u8], to: &[u8])
+pub fn swing(store: &mut [u8], free: &[u16], from: &[u8], to: &[u8])
     requires { SwingAsks store.old free.now from.now to.now }
     ensures { Swings store.old store.new free.now from.now to.now }
 {

@@ -29,13 +29,13 @@ pub struct Halves {
 }
 
 // The half whose numbers stand at these places of the list of free nodes.
-pub fn half_at(free: &[u8], place: usize, block: usize, parts: Parts) -> Half
-    requires { ((place + 1) * 2 ≤ length free.now) × ((block + 2) * 2 ≤ length free.now) × (place < 65536) × (block < 65536) }
+pub fn half_at(free: &[u16], place: usize, block: usize, parts: Parts) -> Half
+    requires { (place + 1 ≤ length free.now) × (block + 2 ≤ length free.now) × (place < 65536) × (block < 65536) }
     ensures { result ≡ half_in free.now place block parts }
 {
-    let number = octets::u16_at(free, place * 2);
-    let edge = octets::u16_at(free, block * 2);
-    let rest = octets::u16_at(free, (block + 1) * 2);
+    let number = free[place] as usize;
+    let edge = free[block] as usize;
+    let rest = free[block + 1] as usize;
     Half {
         number,
         edge,
@@ -67,7 +67,7 @@ pub fn write_root(
     halves: Halves,
     bound: &[u8],
     limit: &[u8],
-    free: &[u8],
+    free: &[u16],
     behind: &[u8],
     last: &[u8],
 )
@@ -81,8 +81,8 @@ pub fn write_root(
     let h = halves.levels;
     let low = halves.low;
     let high = halves.high;
-    let num = octets::u16_at(free, 10 * h * 2);
-    let left = octets::u16_at(free, 7 * h * 2);
+    let num = free[10 * h] as usize;
+    let left = free[7 * h] as usize;
     let mut page = [0u8; 1024];
     let a = writer::write_child(&mut page, image::ENTRIES_AT, left, &bound[0..0]);
     let b = emit_half(&mut page, a, bound, low, behind);

@@ -4,12 +4,12 @@ use Rattle.std.specs.Prelude.{ℕ, ◌+◌, ◌*◌, ◌-◌, ◌≤◌, ◌<◌
 use Rattle.image.specs.Prelude.{sym, ap, ap₂, ◌∙◌, append_assoc, none, arith, length-drop, length-take-le, leb-true, leb-false}
 use Rattle.image.specs.Table.{find, with_row}
 use Rattle.octets.specs.Put.{put, put-size}
-use Rattle.packed.specs.Rows.Area.{rows_of, RowsFit}
+use Rattle.packed.specs.Rows.Area.{rows_of, RowsFit, fit-fewer}
 use Rattle.packed.specs.Rows.Steps.{rows-length}
 use Rattle.packed.specs.Build.Rows.{RowPut}
 use Rattle.dump.specs.Insertion.Insertion.{rank, slot, Inserted}
 use Rattle.dump.specs.Insertion.Ranks.{with_at}
-use Rattle.dump.specs.Insertion.Slots.{Bounded, bounded-alike, bounded-in, fit-each, fit-fewer, rows_split, rows-between, rows-slots, slot-in, slot-before, slot-put, slot-behind}
+use Rattle.dump.specs.Insertion.Slots.{Bounded, bounded-alike, bounded-in, fit-each, rows_split, rows-between, rows-slots, slot-in, slot-before, slot-put, slot-behind}
 
 module _ (area : List ℕ) (i m : ℕ) (fit : RowsFit m area) (order : i ≤ m) (room : m * 128 + 128 ≤ length area)
     (area₁ : List ℕ) (e : area₁ ≡ put area ((i + 1) * 128) (take ((m - i) * 128) (drop (i * 128) area))) where

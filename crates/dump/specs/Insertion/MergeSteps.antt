@@ -1,15 +1,15 @@
 -- Steps of the merge: one row put in; a chunk of rows set aside, from the last to the first; chunk after chunk.
 -- Relies on the laws of slots, of moves and of tables (Merge).
-use Rattle.std.specs.Prelude.{ℕ, ◌+◌, ◌*◌, ◌-◌, ◌≤◌, ◌<◌, ◌≡◌, refl, List, [], ◌∷◌, ◌++◌, Bool, true, false, length, take, drop, get_or, leb}
+use Rattle.std.specs.Prelude.{ℕ, ◌+◌, ◌*◌, ◌-◌, ◌≤◌, ◌<◌, ◌≡◌, refl, List, [], ◌∷◌, ◌++◌, Bool, true, false, length, take, drop, leb}
 use Rattle.image.specs.Prelude.{sym, ap, ap₂, subst, ◌∙◌, append_assoc, append-nil, arith, length-append, length-drop, length-take-le, drop-drop, leb-true, leb-false}
 use Rattle.image.specs.Table.{Row, put_all, rising}
 use Rattle.octets.specs.Put.{put, put-size, put-nil}
 use Rattle.laws.specs.Tables.{put-length}
-use Rattle.packed.specs.Rows.Area.{row_at, rows_of, RowsFit}
+use Rattle.packed.specs.Rows.Area.{row_at, rows_of, RowsFit, RowFits, row-fits, fit-fewer}
 use Rattle.packed.specs.Rows.Steps.{rows-length}
 use Rattle.packed.specs.Build.PutLaws.{put-before, put-after}
 use Rattle.dump.specs.Insertion.Insertion.{rank, slot, Apart, RowMerged, Merged}
-use Rattle.dump.specs.Insertion.Slots.{slot-long, part-long, part-fit, part-rows, join-fit, join-rows, rows-between, Bounded, bounded-alike, bounded-in, fit-each, fit-fewer, row-key, rows_split, rows-slots, slot-in, slot-before, slot-put, slot-behind}
+use Rattle.dump.specs.Insertion.Slots.{slot-long, part-long, part-fit, part-rows, join-fit, join-rows, rows-between, Bounded, bounded-alike, bounded-in, fit-each, rows_split, rows-slots, slot-in, slot-before, slot-put, slot-behind}
 use Rattle.dump.specs.Insertion.Moves.{put-ahead}
 use Rattle.dump.specs.Insertion.Merge.{rising-front, rising-back, rising-put, put-parts, put-empty, put_last, apart-last}
 
@@ -18,18 +18,17 @@ slot_read : (area : List ℕ) (t : ℕ) → take (t * 128 + 128 - t * 128) (drop
 unfolding slot
 slot_read area t = let z : t * 128 + 128 - t * 128 ≡ 128 = omega arith in ap (λ k. take k (drop (t * 128) area)) z
 
-pub row-merged : (area area₁ area₂ aside : List ℕ) (first high left n r : ℕ) → (high + left + 1) * 128 ≤ length area → left * 128 + 128 ≤ length aside
-    → first ≤ r → r ≤ high → n ≡ get_or aside (left * 128) 0
-    → r ≡ first + rank (take (left * 128 + 4 + n - (left * 128 + 4)) (drop (left * 128 + 4) aside)) (rows_of (high - first) area first)
+pub row-merged : (area area₁ area₂ aside path : List ℕ) (first high left r : ℕ) → (high + left + 1) * 128 ≤ length area → left * 128 + 128 ≤ length aside
+    → first ≤ r → r ≤ high → path ≡ (row_at aside left).key → r ≡ first + rank path (rows_of (high - first) area first)
     → area₁ ≡ put area ((r + (left + 1)) * 128) (take ((high - r) * 128) (drop (r * 128) area))
     → area₂ ≡ put area₁ ((r + left) * 128) (take (left * 128 + 128 - left * 128) (drop (left * 128) aside)) → RowMerged area area₂ aside first high left r
-row-merged area area₁ area₂ aside first high left n r room set low most read place moved copied =
+row-merged area area₁ area₂ aside path first high left r room set low most read place moved copied =
     let s = slot-long aside left set in
     let d = length-drop (r * 128) area in
     let l = length-take-le ((high - r) * 128) (drop (r * 128) area) (omega arith) in
     let z : (r + (left + 1)) * 128 ≡ (r + left) * 128 + length (slot aside left) = omega arith in
     record {
-      place = place ∙ ap (λ k. first + rank k (rows_of (high - first) area first)) (row-key aside left n read);
+      place = place ∙ ap (λ k. first + rank k (rows_of (high - first) area first)) read;
       low = low;
       most = most;
       bytes = copied
@@ -177,8 +176,8 @@ module _ (entry aside : List ℕ) (first middle end : ℕ) (a : Apart entry firs
       pub row-there : (left - 1) * 128 + 128 ≤ length aside
       row-there = let r = set.room in let f = m.few in omega arith
 
-      pub row-path : get_or aside ((left - 1) * 128) 0 ≤ 64
-      row-path = let f = m.few in aside-fit.paths (left - 1) (omega arith)
+      pub row-fits-there : RowFits (left - 1) aside
+      row-fits-there = let f = m.few in row-fits _ aside aside-fit (left - 1) (omega arith)
 
       module _ (area' : List ℕ) (r : ℕ) (x : RowMerged area area' aside first high (left - 1) r) where
         abbrev moved : List ℕ

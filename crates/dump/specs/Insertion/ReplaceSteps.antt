@@ -7,14 +7,14 @@ use Rattle.image.specs.Table.{Row, find, is_some, with_row, put_all, rising}
 use Rattle.octets.specs.Order.{same_refl, same-eq, same_turn}
 use Rattle.laws.specs.Tables.{find-put-other, put-length}
 use Rattle.laws.specs.Rising.{rising-with}
-use Rattle.packed.specs.Rows.Area.{row_at, rows_of, RowsFit, rows_step}
+use Rattle.packed.specs.Rows.Area.{row_at, rows_of, RowsFit, rows_step, fit-fewer}
 use Rattle.packed.specs.Rows.Steps.{rows-length}
 use Rattle.packed.specs.Build.Rows.{RowPut}
 use Rattle.live_count.specs.KeepLaws.{with-length}
 use Rattle.dump.specs.Insertion.Insertion.{rank, Inserted, Replaced, Apart, Laid, laid}
 use Rattle.dump.specs.Insertion.Ranks.{absent-end, absent-at, with-over, found_at}
 use Rattle.dump.specs.Insertion.Merge.{none-lacks, put-through, put-among, apart_none, with-more}
-use Rattle.dump.specs.Insertion.Slots.{Bounded, bounded-alike, bounded-in, fit-each, fit-fewer, rows-between, rows-parts, rows-slots, slot-behind}
+use Rattle.dump.specs.Insertion.Slots.{Bounded, bounded-alike, bounded-in, fit-each, rows-between, rows-parts, rows-slots, slot-behind}
 
 -- two areas with the same bytes from row m on
 module _ (area area' : List ℕ) (m all : ℕ) (behind : drop (m * 128) area' ≡ drop (m * 128) area) (order : m ≤ all) (fit : RowsFit all area) where

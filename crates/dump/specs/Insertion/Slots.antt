@@ -4,7 +4,7 @@ use Rattle.std.specs.Prelude.{ℕ, zero, suc, ◌+◌, ◌*◌, ◌-◌, ◌≤�
 use Rattle.image.specs.Prelude.{sym, ap, ap₂, ◌∙◌, arith, length-append, length-drop, length-take-le, take-take, drop-drop, drop-append-le, take-append-le, drop-append-add, take-append_seam, drop-append_seam, leb-true, leb-false}
 use Rattle.octets.specs.Put.{put}
 use Rattle.image.specs.Table.{Row}
-use Rattle.packed.specs.Rows.Area.{row_at, rows_of, RowsFit}
+use Rattle.packed.specs.Rows.Area.{row_at, rows_of, RowsFit, fit-fewer}
 use Rattle.packed.specs.Rows.Steps.{rows-length}
 use Rattle.packed.specs.Build.PutLaws.{put-before, put_same, byte_at}
 use Rattle.dump.specs.Insertion.Insertion.{slot}
@@ -61,16 +61,6 @@ bounded-in m area f t h = (f.paths t h, f.values t h)
 
 pub fit-each : (m : ℕ) (area : List ℕ) → 128 * m ≤ length area → ((t : ℕ) → t < m → Bounded area t) → RowsFit m area
 fit-each m area r h = record { room = r; paths = λ t k. (h t k).0; values = λ t k. (h t k).1 }
-
-pub fit-fewer : (m k : ℕ) (area : List ℕ) → k ≤ m → RowsFit m area → RowsFit k area
-fit-fewer m k area h f = let r = f.room in fit-each k area (omega arith) (λ t l. bounded-in m area f t (omega arith))
-
--- the path of a row as it is read, where n is the byte of its length
-pub row-key : (area : List ℕ) (i n : ℕ) → n ≡ get_or area (i * 128) 0 → take (i * 128 + 4 + n - (i * 128 + 4)) (drop (i * 128 + 4) area) ≡ (row_at area i).key
-unfolding row_at
-row-key area i n e =
-    let z : i * 128 + 4 + n - (i * 128 + 4) ≡ n = omega arith in
-    ap (λ k. take k (drop (i * 128 + 4) area)) (z ∙ e)
 
 -- rows one after the other
 pub rows_split : (j k : ℕ) (area : List ℕ) (i : ℕ) → rows_of (j + k) area i ≡ rows_of j area i ++ rows_of k area (i + j)

@@ -1,20 +1,21 @@
 -- `build` meets its contract.
 -- Relies on specs/Build/BuildSteps.
 use Rattle.packed.specs.Build.BuildSteps.{leaves-ready, empty-ready, ascent-first, build-last, build-empty}
+use Rattle.std.specs.Prelude.{refl}
 use Rattle.image.specs.Prelude.{arith}
 use Rattle.packed.proofs.build.Goals as goal
 
-pub u16_at-num-requires : goal.u16_at-num-requires
-u16_at-num-requires c = let q = empty-ready c.args.store.now c.args.area.now c.args.m c.args.numbers.now c.requires in let z = q.some_number in omega arith
+pub bounds-numbers-0 : goal.bounds-numbers-0
+bounds-numbers-0 c = let q = empty-ready c.args.store.now c.args.area.now c.args.m c.args.numbers.now c.requires in let z = q.some_number in omega arith
 
 pub write_empty_leaf-requires : goal.write_empty_leaf-requires
-write_empty_leaf-requires c = let q = empty-ready c.args.store.now c.args.area.now c.args.m c.args.numbers.now c.requires in let n = c.u16_at-num.ensures.0 in let z = q.room in let y = q.small in (omega arith, omega arith)
+write_empty_leaf-requires c = let q = empty-ready c.args.store.now c.args.area.now c.args.m c.args.numbers.now c.requires in let z = q.room in let y = q.small in (omega arith, omega arith)
 
 pub write_header-requires : goal.write_header-requires
 write_header-requires c = let q = empty-ready c.args.store.now c.args.area.now c.args.m c.args.numbers.now c.requires in let z = q.room in let y = q.small in (omega arith, omega arith, omega arith, omega arith, omega arith)
 
 pub returns-then-m-eq0 : goal.returns-then-m-eq0
-returns-then-m-eq0 c = build-empty c.args.store.now c.args.area.now c.args.m c.args.numbers.now c.requires (omega arith) _ _ c.u16_at-num.result c.u16_at-num.ensures.0 c.write_empty_leaf.ensures (omega arith) c.write_header.ensures
+returns-then-m-eq0 c = build-empty c.args.store.now c.args.area.now c.args.m c.args.numbers.now c.requires (omega arith) _ _ _ refl c.write_empty_leaf.ensures (omega arith) c.write_header.ensures
 
 pub write_leaves-made-requires : goal.write_leaves-made-requires
 write_leaves-made-requires c = let q = leaves-ready c.args.store.now c.args.area.now c.args.m c.args.numbers.now c.requires (omega arith) in (q.fit, omega arith, q.few, q.enough, q.ranged, q.small)
@@ -26,7 +27,7 @@ write_above-levels-requires c = let q = leaves-ready c.args.store.now c.args.are
     (omega arith, omega arith, rw c.write_leaves-made.auto.store q.ranged, omega arith, ascent-first c.args.store.now c.args.area.now c.args.m c.args.numbers.now c.requires (omega arith) _ _ c.write_leaves-made.result c.write_leaves-made.ensures)
 
 pub mark_at-root-requires : goal.mark_at-root-requires
-mark_at-root-requires c = let q = leaves-ready c.args.store.now c.args.area.now c.args.m c.args.numbers.now c.requires (omega arith) in let r = q.fit.room in (omega arith, omega arith)
+mark_at-root-requires c = let q = leaves-ready c.args.store.now c.args.area.now c.args.m c.args.numbers.now c.requires (omega arith) in let r = q.fit.room in omega arith
 
 pub write_header-requires-2 : goal.write_header-requires-2
 write_header-requires-2 c = let q = leaves-ready c.args.store.now c.args.area.now c.args.m c.args.numbers.now c.requires (omega arith) in

@@ -1,6 +1,6 @@
 -- Steps of the loop over the levels: one pass makes the level above of the definitions, and one node is left at last.
 -- Rely on specs/Form/Tower for how few nodes a level has, and on specs/Form/Marks for a level by its marks.
-use Rattle.std.specs.Prelude.{ℕ, zero, suc, ◌+◌, ◌*◌, ◌-◌, ◌/◌, ◌≤◌, ◌<◌, ◌≡◌, refl, List, [], ◌∷◌, ◌++◌, length, drop}
+use Rattle.std.specs.Prelude.{ℕ, zero, suc, ◌+◌, ◌*◌, ◌-◌, ◌≤◌, ◌<◌, ◌≡◌, refl, List, [], ◌∷◌, ◌++◌, length, drop}
 use Rattle.image.specs.Prelude.{sym, ap, ap₂, subst, ◌∙◌, arith}
 use Rattle.packed.specs.Form.Chunk.{groups}
 use Rattle.packed.specs.Form.Packed.{Item, Built, child_weight, raised, climb, top_of}
@@ -52,7 +52,7 @@ more-fuel (suc f) xs h k = omega arith
 
 -- what a turn asks of the pass
 pub record AscentReady (m : ℕ) (numbers area : List ℕ) (level used : ℕ) : Type 0 where
-  pub enough : used + nodes_from m area 0 ≤ length numbers / 2
+  pub enough : used + nodes_from m area 0 ≤ length numbers
   pub low : level + 1 ≤ 8
 
 pub ascent-ready : (m : ℕ) (numbers area₀ area store₀ store : List ℕ) (level used count : ℕ) (b : Built) (s : List ℕ)

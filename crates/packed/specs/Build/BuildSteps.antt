@@ -2,7 +2,6 @@
 -- Rely on specs/Form/Ordered: pages written level by level give the packed image.
 use Rattle.std.specs.Prelude.{ℕ, zero, suc, ◌+◌, ◌*◌, ◌-◌, ◌/◌, ◌≤◌, ◌≡◌, refl, List, [], ◌++◌, true, length, drop, get_or}
 use Rattle.image.specs.Prelude.{sym, ap, ap₂, subst, ◌∙◌, arith}
-use Rattle.image.specs.Bytes.{u16}
 use Rattle.image.specs.Table.{Row}
 use Rattle.image.specs.Image.{nodes_of}
 use Rattle.image.specs.Sound.{in_range}
@@ -49,15 +48,15 @@ leaves-count m area nums o =
 pub record LeavesReady (store area : List ℕ) (m : ℕ) (given : List ℕ) : Type 0 where
   pub fit : RowsFit m area
   pub few : m ≤ 1024
-  pub enough : leaves_from m area 0 ≤ length given / 2
+  pub enough : leaves_from m area 0 ≤ length given
   pub ranged : in_range (length store / 1024) (handed given) ≡ true
   pub small : length store ≤ 2000000
   pub large : 32768 ≤ length store
 
 -- what the empty leaf asks for
 pub record EmptyReady (store given : List ℕ) : Type 0 where
-  pub some_number : 2 ≤ length given
-  pub room : u16 given 0 * 1024 + 1024 ≤ length store
+  pub some_number : 1 ≤ length given
+  pub room : get_or given 0 0 * 1024 + 1024 ≤ length store
   pub small : length store ≤ 2000000
 
 module _ (store area : List ℕ) (m : ℕ) (given : List ℕ) (a : Asks store area m given) where
@@ -70,7 +69,7 @@ module _ (store area : List ℕ) (m : ℕ) (given : List ℕ) (a : Asks store ar
   tab : Tabled rows
   tab = tabled rows a.table.rises a.table.formed a.table.values
 
-  count : length nums ≡ length given / 2
+  count : length nums ≡ length given
   unfolding handed
   count = handed-length given 0 ∙ (omega arith)
 
@@ -85,7 +84,7 @@ module _ (store area : List ℕ) (m : ℕ) (given : List ℕ) (a : Asks store ar
       ∙ ap (λ k. image_of store (nodes_of (length store)) k (packed nums rows)) (rows-length m area 0)
 
   -- the numbers suffice for the leaves, and for twice as many nodes above them as there may be
-  few : (length (leaves nums rows) ≤ length given / 2) × (length (leaves nums rows) ≤ 2 * (length given / 2 - length (leaves nums rows)) + 1)
+  few : (length (leaves nums rows) ≤ length given) × (length (leaves nums rows) ≤ 2 * (length given - length (leaves nums rows)) + 1)
       × (length (leaves nums rows) ≤ 1024)
   few =
       let p = few-leaves nums rows tab in
@@ -232,7 +231,7 @@ module _ (store area : List ℕ) (m : ℕ) (given : List ℕ) (a : Asks store ar
       let u = a.most in
       record { some_number = omega arith; room = omega arith; small = omega arith }
 
-  pub build-empty : m ≡ 0 → (store₁ store₂ : List ℕ) (num : ℕ) → num ≡ u16 given 0 → store₁ ≡ write_node store num (page 1 1 [])
+  pub build-empty : m ≡ 0 → (store₁ store₂ : List ℕ) (num : ℕ) → num ≡ get_or given 0 0 → store₁ ≡ write_node store num (page 1 1 [])
       → length store₁ ≡ length store → store₂ ≡ write_node store₁ 0 (head_page (length store₁ / 1024) num 1 0) → store₂ ≡ built_image store area m given
   build-empty z store₁ store₂ num n x s y =
       y ∙ ap₂ (λ p k. write_node p 0 (head_page k num 1 0)) x size_is ∙ order_is

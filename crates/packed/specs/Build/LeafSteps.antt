@@ -2,7 +2,7 @@
 -- Rely on specs/Rows/Steps (one leaf, and on) and on the turn of the marks (Grow).
 use Rattle.std.specs.Prelude.{ℕ, zero, suc, ◌+◌, ◌*◌, ◌-◌, ◌/◌, ◌≤◌, ◌<◌, ◌≡◌, refl, List, [], ◌∷◌, ◌++◌, Bool, true, false, length, get_or, ltb}
 use Rattle.image.specs.Prelude.{sym, ap, ap₂, ◌∙◌, append_assoc, append-nil, arith, ltb-true, ltb-false}
-use Rattle.image.specs.Bytes.{u16, shared}
+use Rattle.image.specs.Bytes.{shared}
 use Rattle.laws.specs.Encode.{bytes_of_all}
 use Rattle.image.specs.Sound.{in_range, highest}
 use Rattle.laws.specs.WriteNode.{write_node}
@@ -103,13 +103,13 @@ leaf_first m numbers area store f =
 pub record LeafReady (m : ℕ) (numbers area : List ℕ) (i j made len : ℕ) : Type 0 where
   pub later : i < j
   pub last : j ≤ m
-  pub left : made < length numbers / 2
+  pub left : made < length numbers
   pub fits : leaf_bytes m area i j ≤ 1016
-  pub positive : 1 ≤ u16 numbers (made * 2)
-  pub room : u16 numbers (made * 2) * 1024 + 1024 ≤ len
+  pub positive : 1 ≤ get_or numbers made 0
+  pub room : get_or numbers made 0 * 1024 + 1024 ≤ len
 
 module _ (m : ℕ) (numbers area₀ area store₀ store : List ℕ) (i made : ℕ) (t : LeafTurns m numbers area₀ area store₀ store i made) (h : i < m)
-    (enough : leaves_from m area₀ 0 ≤ length numbers / 2) (r : in_range (length store₀ / 1024) (handed numbers) ≡ true)
+    (enough : leaves_from m area₀ 0 ≤ length numbers) (r : in_range (length store₀ / 1024) (handed numbers) ≡ true)
     (w : ℕ) (e : w ≡ 6 + get_or area (i * 128) 0 + get_or area (i * 128 + 1) 0) (j : ℕ) (f : j ≡ leaf_end m area (i + 1) w) where
   weight : pair_weight (row_at area i) ≡ w
   weight = row-weight m area t.fit i h ∙ sym e
@@ -132,7 +132,7 @@ module _ (m : ℕ) (numbers area₀ area store₀ store : List ℕ) (i made : �
       let b = more_left in
       let c = t.counted in
       let s = t.size in
-      let l : made < length numbers / 2 = omega arith in
+      let l : made < length numbers = omega arith in
       let g = handed-range (length store₀ / 1024) numbers made r l in
       record {
         later = a.later;
@@ -143,7 +143,7 @@ module _ (m : ℕ) (numbers area₀ area store₀ store : List ℕ) (i made : �
         room = let k = g.1 in omega arith;
       }
 
-  pub leaf-next : (num : ℕ) → num ≡ u16 numbers (made * 2) → (store' cleared after : List ℕ) → store' ≡ write_node store num (leaf_page m area i (low_of_row area i) j)
+  pub leaf-next : (num : ℕ) → num ≡ get_or numbers made 0 → (store' cleared after : List ℕ) → store' ≡ write_node store num (leaf_page m area i (low_of_row area i) j)
       → cleared ≡ clear_marks (j - (i + 1)) area (i + 1) → after ≡ put_mark cleared i num → length store' ≡ length store
       → LeafTurns m numbers area₀ after store₀ store' j (made + 1)
   leaf-next num n store' cleared after x p q sz =

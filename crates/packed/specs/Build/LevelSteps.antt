@@ -1,8 +1,7 @@
 -- Steps of the pass that writes one level of interior nodes and makes its marks, with numbers from the list.
 -- Rely on specs/Rows/Branches (one node, and on) and on the turn of the marks (Grow).
-use Rattle.std.specs.Prelude.{ℕ, suc, ◌+◌, ◌*◌, ◌-◌, ◌/◌, ◌≤◌, ◌<◌, ◌≡◌, refl, List, [], ◌∷◌, ◌++◌, true, length}
+use Rattle.std.specs.Prelude.{ℕ, suc, ◌+◌, ◌*◌, ◌-◌, ◌/◌, ◌≤◌, ◌<◌, ◌≡◌, refl, List, [], ◌∷◌, ◌++◌, true, length, get_or}
 use Rattle.image.specs.Prelude.{sym, ap, ap₂, ◌∙◌, append_assoc, append-nil, arith}
-use Rattle.image.specs.Bytes.{u16}
 use Rattle.image.specs.Sound.{in_range}
 use Rattle.laws.specs.WriteNode.{write_node}
 use Rattle.packed.specs.Form.Chunk.{groups}
@@ -50,14 +49,14 @@ level-first l m numbers from area store f o =
 pub record NodeReady (m : ℕ) (numbers area : List ℕ) (i j made len : ℕ) : Type 0 where
   pub later : i < j
   pub last : j ≤ m
-  pub left : made < length numbers / 2
+  pub left : made < length numbers
   pub next : j < m → 1 ≤ mark_at area j
   pub fits : node_bytes_of m area i j ≤ 1016
-  pub positive : 1 ≤ u16 numbers (made * 2)
-  pub room : u16 numbers (made * 2) * 1024 + 1024 ≤ len
+  pub positive : 1 ≤ get_or numbers made 0
+  pub room : get_or numbers made 0 * 1024 + 1024 ≤ len
 
 module _ (l m : ℕ) (numbers : List ℕ) (from : ℕ) (area₀ area store₀ store : List ℕ) (i made : ℕ) (t : NodeTurns l m numbers from area₀ area store₀ store i made) (h : i < m)
-    (enough : from + nodes_from m area₀ 0 ≤ length numbers / 2) (r : in_range (length store₀ / 1024) (handed numbers) ≡ true)
+    (enough : from + nodes_from m area₀ 0 ≤ length numbers) (r : in_range (length store₀ / 1024) (handed numbers) ≡ true)
     (w : ℕ) (e : w ≡ start_weight area i) (j : ℕ) (f : j ≡ node_end m area (i + 1) w) where
   weight : 6 + length (low_of_row area i) ≡ w
   unfolding start_weight
@@ -72,7 +71,7 @@ module _ (l m : ℕ) (numbers : List ℕ) (from : ℕ) (area₀ area store₀ st
       let b = more_left in
       let c = t.counted in
       let s = t.size in
-      let k : made < length numbers / 2 = omega arith in
+      let k : made < length numbers = omega arith in
       let g = handed-range (length store₀ / 1024) numbers made r k in
       record {
         later = a.later;
@@ -84,7 +83,7 @@ module _ (l m : ℕ) (numbers : List ℕ) (from : ℕ) (area₀ area store₀ st
         room = let z = g.1 in omega arith;
       }
 
-  pub level-next : (num : ℕ) → num ≡ u16 numbers (made * 2) → (store' cleared after : List ℕ) → store' ≡ write_node store num (node_page l m area i j)
+  pub level-next : (num : ℕ) → num ≡ get_or numbers made 0 → (store' cleared after : List ℕ) → store' ≡ write_node store num (node_page l m area i j)
       → cleared ≡ clear_marks (j - (i + 1)) area (i + 1) → after ≡ put_mark cleared i num → length store' ≡ length store
       → NodeTurns l m numbers from area₀ after store₀ store' j (made + 1)
   level-next num n store' cleared after x p q sz =

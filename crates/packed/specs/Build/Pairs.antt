@@ -1,6 +1,6 @@
 -- The pairs of the rows from i up to j, as the bytes of a leaf, without the first k bytes of each path.
 -- These name what the leaf writer's contracts cite; the page itself is `leaf_page` of specs/Rows/Steps.
-use Rattle.std.specs.Prelude.{ℕ, ◌+◌, ◌*◌, ◌-◌, List, cond, length, get_or, ltb}
+use Rattle.std.specs.Prelude.{ℕ, ◌-◌, List, length}
 use Rattle.image.specs.Bytes.{shared}
 use Rattle.laws.specs.Encode.{bytes_of_all}
 use Rattle.packed.specs.Form.Packed.{short_rows}
@@ -12,10 +12,6 @@ use Rattle.packed.specs.Rows.Steps.{high_at}
 -- n rows from row i on
 unfoldable pub pair_bytes : ℕ → ℕ → List ℕ → ℕ → List ℕ
 pair_bytes k n area i = bytes_of_all (pair_entries (short_rows k (rows_of n area i)))
-
--- where the path of row i starts without its first k bytes
-unfoldable pub path_from : ℕ → List ℕ → ℕ → ℕ
-path_from k area i = i * 128 + 4 + cond (ltb (get_or area (i * 128) 0) k) (get_or area (i * 128) 0) k
 
 -- how many bytes the leaf lifts that holds the rows from i up to j, and how many its entries take
 unfoldable pub leaf_lifts : ℕ → List ℕ → ℕ → ℕ → ℕ

@@ -1,8 +1,7 @@
--- Steps of the row writer and of the loop that clears the area.
+-- Steps of the row writer.
 -- Rely on the laws of puts.
 use Rattle.std.specs.Prelude.{ℕ, zero, suc, ◌+◌, ◌*◌, ◌≤◌, ◌<◌, ◌≡◌, refl, List, [], ◌∷◌, ◌++◌, Bool, true, false, length, take, drop, get_or, set, ltb}
-use Rattle.image.specs.Prelude.{sym, ap, ap₂, subst, ◌∙◌, append_assoc, arith, length-append, length-drop, length-replicate, length-set, drop-drop, drop-append-add, take_at, set_split, ltb-true, ltb-false}
-use Rattle.laws.specs.Page.{zeros_of}
+use Rattle.image.specs.Prelude.{sym, ap, ap₂, subst, ◌∙◌, arith, length-append, length-set, ltb-true, ltb-false}
 use Rattle.packed.specs.Rows.Area.{row_at, rows_of, RowsFit}
 use Rattle.octets.specs.Put.{put, put_one, put-put, put-size}
 use Rattle.packed.specs.Build.Rows.{RowPut}
@@ -134,31 +133,3 @@ row-joined area i front rest value fit room short-path short-value area₁ area�
     let s : length area₂ ≡ length area = ap length e₂ ∙ length-set area₁ (i * 128 + 1) (length value) ∙ ap length e₁ ∙ length-set area (i * 128) (length front + length rest) in
     row_put area i (front ++ rest) value fit room (omega arith) short-value area₁ area₂ area₄ area₅ (e₁ ∙ ap (set area (i * 128)) (sym n)) e₂
     (e₄ ∙ ap (λ x. put x (i * 128 + 4 + length front) rest) e₃ ∙ put-put area₂ (i * 128 + 4) front rest (omega arith)) e₅
-
--- zeros
-zeros-more : (k : ℕ) → zeros_of (suc k) ≡ zeros_of k ++ (0 ∷ [])
-unfolding zeros_of
-zeros-more zero = refl
-zeros-more (suc k) = ap (λ l. 0 ∷ l) (zeros-more k)
-
-zeros-length : (k : ℕ) → length (zeros_of k) ≡ k
-unfolding zeros_of
-zeros-length k = length-replicate {A = ℕ} k 0
-
-pub clear_first : (area : List ℕ) → area ≡ zeros_of 0 ++ drop 0 area
-unfolding zeros_of
-clear_first area = refl
-
-pub clear-more : (area area₀ : List ℕ) (i : ℕ) → i < length area₀ → area ≡ zeros_of i ++ drop i area₀ → set area i 0 ≡ zeros_of (i + 1) ++ drop (i + 1) area₀
-clear-more area area₀ i h e =
-    let n = zeros-length i in
-    let m = length-append (zeros_of i) (drop i area₀) in
-    let d = length-drop i area₀ in
-    let z : i + 1 ≡ suc i = omega arith in
-    let y : suc i ≡ length (zeros_of i) + 1 = omega arith in
-    ap (λ l. set l i 0) e
-    ∙ set_split (zeros_of i ++ drop i area₀) i 0 (omega arith)
-    ∙ ap₂ (λ a b. a ++ (0 ∷ b)) (take_at (zeros_of i) (drop i area₀) i n)
-    (ap (λ k. drop k (zeros_of i ++ drop i area₀)) y ∙ drop-append-add (zeros_of i) (drop i area₀) 1 ∙ drop-drop 1 i area₀)
-    ∙ sym (append_assoc (zeros_of i) (0 ∷ []) (drop (i + 1) area₀))
-    ∙ ap (λ l. l ++ drop (i + 1) area₀) (sym (zeros-more i) ∙ ap zeros_of (sym z))

@@ -1,12 +1,11 @@
--- Child entries put into a page, and where a row's path stands in the area without its first bytes.
-use Rattle.std.specs.Prelude.{ℕ, zero, suc, ◌+◌, ◌*◌, ◌-◌, ◌≤◌, ◌<◌, ◌≡◌, refl, List, [], ◌∷◌, ◌++◌, Bool, true, false, cond, ◌≢◌, eqb, ltb, length, take, drop, get_or}
-use Rattle.image.specs.Prelude.{sym, ap, ap₂, ◌∙◌, append_assoc, append-nil, arith, eq-eqb, ne_eqb, eqb-true, eqb-false, lt-ltb, le-ltb, ltb-true, ltb-false, drop_of_length-le, drop-drop, take-nil}
+-- Child entries put into a page: the marked rows one after the other.
+use Rattle.std.specs.Prelude.{ℕ, zero, suc, ◌+◌, ◌-◌, ◌≤◌, ◌<◌, ◌≡◌, refl, List, [], ◌∷◌, ◌++◌, drop, take}
+use Rattle.image.specs.Prelude.{sym, ap, ◌∙◌, append_assoc, append-nil, arith, take-nil}
 use Rattle.image.specs.Entry.{child}
 use Rattle.image.specs.Image.{Branch}
 use Rattle.laws.specs.Encode.{bytes_of, bytes_of_all}
 use Rattle.packed.specs.Form.Marks.{branch_entries}
-use Rattle.packed.specs.Rows.Area.{row_at, RowsFit, key-length}
-use Rattle.packed.specs.Rows.Branches.{mark_at, low_of_row, branches_of, branches-take, branches-pass, low-later}
+use Rattle.packed.specs.Rows.Branches.{mark_at, low_of_row, branches_of, branches-take, branches-pass}
 use Rattle.packed.specs.Rows.Remark.{branches-split}
 
 -- the bytes of the marked ones of n rows from row i
@@ -52,86 +51,3 @@ drop-take zero n l h = let z : n ≡ n - 0 = omega arith in ap (λ q. take q l) 
 drop-take (suc k) zero l h = absurd (omega arith)
 drop-take (suc k) (suc n) [] h = sym (take-nil (suc n - suc k))
 drop-take (suc k) (suc n) (a ∷ l) h = let z : n - k ≡ suc n - suc k = omega arith in drop-take k n l (omega arith) ∙ ap (λ q. take q (drop k l)) z
-
--- the suffix of row i, as the code takes it from the area
-pub suffix-first : (k : ℕ) (area : List ℕ) (i : ℕ) → i ≡ 0 → drop k (low_of_row area i) ≡ []
-unfolding low_of_row
-suffix-first k area zero e = drop_of_length-le [] {i = k} (omega arith)
-suffix-first k area (suc i) e = absurd (omega arith)
-
--- from s up to e is the path of row i without its first k bytes
-pub path-part : (m : ℕ) (area : List ℕ) → RowsFit m area → (k i : ℕ) → i < m → (s e : ℕ) → e ≡ i * 128 + 4 + get_or area (i * 128) 0
-    → (get_or area (i * 128) 0 < k → s ≡ e) → (k ≤ get_or area (i * 128) 0 → s ≡ i * 128 + 4 + k) → (s ≤ e) × (take (e - s) (drop s area) ≡ drop k (row_at area i).key)
-path-part m area f k i h s e b short long = go (ltb (get_or area (i * 128) 0) k) refl
-  where
-    key-is : (row_at area i).key ≡ take (get_or area (i * 128) 0) (drop (i * 128 + 4) area)
-    key-is = unfold row_at in refl
-
-    go : (y : Bool) → ltb (get_or area (i * 128) 0) k ≡ y → (s ≤ e) × (take (e - s) (drop s area) ≡ drop k (row_at area i).key)
-    go true q =
-        let l : get_or area (i * 128) 0 < k = ltb-true (get_or area (i * 128) 0) k q in
-        let c = short l in
-        let n = key-length m area f i h in
-        let z : e - s ≡ 0 = omega arith in
-        (omega arith, ap (λ x. take x (drop s area)) z ∙ sym (drop_of_length-le (row_at area i).key {i = k} (omega arith)))
-    go false q =
-        let l : k ≤ get_or area (i * 128) 0 = ltb-false (get_or area (i * 128) 0) k q in
-        let c : s ≡ i * 128 + 4 + k = long l in
-        let z : e - s ≡ get_or area (i * 128) 0 - k = omega arith in (
-          omega arith,
-          ap₂ (λ x y. take x (drop y area)) z c
-              ∙ ap (take (get_or area (i * 128) 0 - k)) (sym (drop-drop k (i * 128 + 4) area))
-              ∙ sym (drop-take k (get_or area (i * 128) 0) (drop (i * 128 + 4) area) l)
-              ∙ ap (drop k) (sym key-is),
-        )
-
--- where the suffix of row i stands
-unfoldable pub end_at : List ℕ → ℕ → ℕ
-end_at area i = cond (eqb i 0) (i * 128 + 4) (i * 128 + 4 + get_or area (i * 128) 0)
-
-unfoldable pub start_at : ℕ → List ℕ → ℕ → ℕ
-start_at k area i = cond (eqb i 0) (i * 128 + 4) (cond (ltb (get_or area (i * 128) 0) k) (i * 128 + 4 + get_or area (i * 128) 0) (i * 128 + 4 + k))
-
-pub end-first : (area : List ℕ) (i : ℕ) → i ≡ 0 → end_at area i ≡ i * 128 + 4
-unfolding end_at
-end-first area i h = rw (eq-eqb i 0 h)
-
-pub end_later : (area : List ℕ) (i : ℕ) → (i ≡ 0 → ⊥) → end_at area i ≡ i * 128 + 4 + get_or area (i * 128) 0
-unfolding end_at
-end_later area i h = rw (ne_eqb i 0 h)
-
-pub start-zero : (k : ℕ) (area : List ℕ) (i : ℕ) → i ≡ 0 → start_at k area i ≡ i * 128 + 4
-unfolding start_at
-start-zero k area i h = rw (eq-eqb i 0 h)
-
-pub start-short : (k : ℕ) (area : List ℕ) (i : ℕ) → (i ≡ 0 → ⊥) → get_or area (i * 128) 0 < k → start_at k area i ≡ i * 128 + 4 + get_or area (i * 128) 0
-unfolding start_at
-start-short k area i h l = rw (ne_eqb i 0 h, lt-ltb (get_or area (i * 128) 0) k l)
-
-pub start-long : (k : ℕ) (area : List ℕ) (i : ℕ) → (i ≡ 0 → ⊥) → k ≤ get_or area (i * 128) 0 → start_at k area i ≡ i * 128 + 4 + k
-unfolding start_at
-start-long k area i h l = rw (ne_eqb i 0 h, le-ltb (get_or area (i * 128) 0) k l)
-
-pub record Span (k : ℕ) (area : List ℕ) (i s e : ℕ) : Type 0 where
-  pub ordered : s ≤ e
-  pub inside : e ≤ length area
-  pub bytes : take (e - s) (drop s area) ≡ drop k (low_of_row area i)
-
-pub span : (m : ℕ) (area : List ℕ) → RowsFit m area → (k i : ℕ) → i < m → (s e : ℕ) → s ≡ start_at k area i → e ≡ end_at area i → Span k area i s e
-span m area f k i h s e a b = go (eqb i 0) refl
-  where
-    go : (x : Bool) → eqb i 0 ≡ x → Span k area i s e
-    go true p =
-        let z : i ≡ 0 = eqb-true i 0 p in
-        let c = start-zero k area i z in
-        let d = end-first area i z in
-        let r = f.room in
-        let n : e - s ≡ 0 = omega arith in
-        record { ordered = omega arith; inside = omega arith; bytes = ap (λ x. take x (drop s area)) n ∙ sym (suffix-first k area i z) }
-    go false p =
-        let z : i ≢ 0 = eqb-false i 0 p in
-        let d : e ≡ i * 128 + 4 + get_or area (i * 128) 0 = b ∙ end_later area i z in
-        let r = f.room in
-        let t = f.paths i h in
-        let g = path-part m area f k i h s e d (λ l. a ∙ start-short k area i z l ∙ sym d) (λ l. a ∙ start-long k area i z l) in
-        record { ordered = g.0; inside = omega arith; bytes = g.1 ∙ ap (drop k) (sym (low-later area i z)) }

@@ -1,6 +1,6 @@
 -- The lifted prefix, and a whole interior page.
-use Rattle.std.specs.Prelude.{ℕ, suc, ◌+◌, ◌*◌, ◌-◌, ◌≤◌, ◌<◌, ◌≡◌, refl, List, length}
-use Rattle.image.specs.Prelude.{sym, ap, ◌∙◌, arith}
+use Rattle.std.specs.Prelude.{ℕ, suc, ◌+◌, ◌*◌, ◌-◌, ◌≤◌, ◌<◌, ◌≡◌, refl, List, length, Bool, true, false, ltb}
+use Rattle.image.specs.Prelude.{sym, ap, ◌∙◌, arith, ltb-true, ltb-false}
 use Rattle.image.specs.Bytes.{shared, u16_bytes}
 use Rattle.image.specs.Sound.{highest}
 use Rattle.laws.specs.Encode.{bytes_of_all}
@@ -12,6 +12,9 @@ use Rattle.packed.specs.Rows.Branches.{mark_at, low_of_row, branches_of, branche
 use Rattle.octets.specs.Put.{put}
 use Rattle.node.specs.Pages.{page-written}
 use Rattle.packed.specs.Pages.Entries.{branch_bytes}
+use Rattle.packed.specs.Rows.Steps.{high_at}
+use Rattle.packed.specs.Build.Pairs.{leaf_lifts}
+use Rattle.packed.specs.Build.PairLaws.{high_end, high-low}
 
 -- the high pivot of what ends before row j
 pub high-last : (m : ℕ) (area : List ℕ) (j : ℕ) → j ≡ m → high_of_row m area j ≡ highest
@@ -23,6 +26,20 @@ unfolding high_of_row first
 high-row m area j h o =
     let z : m - j ≡ suc (m - suc j) = omega arith in
     ap (λ k. first pivot_of highest (branches_of k area j)) z ∙ ap (first pivot_of highest) (branches-take (m - suc j) area j o)
+
+-- what a node lifts, told by its rows as for a leaf
+pub lifts-alike : (m : ℕ) (area : List ℕ) (i j : ℕ) → i < j → j ≤ m → (j < m → 1 ≤ mark_at area j)
+    → leaf_lifts m area i j ≡ length (shared (low_of_row area i) (high_of_row m area j))
+unfolding leaf_lifts
+lifts-alike m area i j a b o = ap (λ l. length (shared (low_of_row area i) l)) (go (ltb j m) refl)
+  where
+    go : (x : Bool) → ltb j m ≡ x → high_at m area j ≡ high_of_row m area j
+    go true e =
+        let h : j < m = ltb-true j m e in
+        high-low m area j (omega arith) h ∙ sym (high-row m area j h (o h))
+    go false e =
+        let h : m ≤ j = ltb-false j m e in
+        high_end m area j h ∙ sym (high-last m area j (omega arith))
 
 -- the bytes of the entries of the node that starts at row i and ends before row j
 unfoldable pub node_bytes_of : ℕ → List ℕ → ℕ → ℕ → ℕ

@@ -42,6 +42,11 @@ unfolding low_of_row
 low-later area zero n = absurd (n refl)
 low-later area (suc i) n = refl
 
+pub low-first : (area : List ℕ) (i : ℕ) → i ≡ 0 → low_of_row area i ≡ []
+unfolding low_of_row
+low-first area zero e = refl
+low-first area (suc i) e = absurd (omega arith)
+
 pub low-length : (m : ℕ) (area : List ℕ) → RowsFit m area → (i : ℕ) → (i ≡ 0 → ⊥) → i < m → length (low_of_row area i) ≡ get_or area (i * 128) 0
 low-length m area f i n h = ap length (low-later area i n) ∙ key-length m area f i h
 

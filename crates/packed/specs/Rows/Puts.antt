@@ -1,7 +1,8 @@
 -- A mark written: the rows stay, the other marks stay.
 use Rattle.std.specs.Prelude.{ℕ, ◌+◌, ◌*◌, ◌-◌, ◌/◌, ◌%◌, ◌≤◌, ◌<◌, ◌≡◌, refl, ◌⊎◌, List, Bool, true, false, length, take, drop, get_or, set, ltb}
-use Rattle.image.specs.Prelude.{ap, ap₂, ◌∙◌, inl, inr, arith, length-set, get_or-set_same, get_or-set_other, drop-set-lt, drop-set-add, take-set-le, ltb-true, ltb-false}
-use Rattle.image.specs.Bytes.{u16}
+use Rattle.image.specs.Prelude.{ap, ap₂, ◌∙◌, inl, inr, arith, length-set, get_or-set_same, get_or-set_other, drop-set-lt, drop-set-add, take-set-le, ltb-true, ltb-false, sym}
+use Rattle.image.specs.Bytes.{u16, u16_bytes}
+use Rattle.octets.specs.Put.{put, put_two}
 use Rattle.packed.specs.Rows.Area.{row_at}
 use Rattle.packed.specs.Rows.Branches.{mark_at}
 
@@ -14,6 +15,12 @@ part-set l a n p v (inr h) =
 
 unfoldable pub put_mark : List ℕ → ℕ → ℕ → List ℕ
 put_mark area i v = set (set area (i * 128 + 2) (v % 256)) (i * 128 + 3) (v / 256)
+
+pub mark-put : (area : List ℕ) (i v : ℕ) → i * 128 + 4 ≤ length area → put area (i * 128 + 2) (u16_bytes v) ≡ put_mark area i v
+unfolding put_mark
+mark-put area i v h =
+    let z : i * 128 + 2 + 1 ≡ i * 128 + 3 = omega arith in
+    sym (put_two area (i * 128 + 2) v (omega arith)) ∙ ap (λ p. set (set area (i * 128 + 2) (v % 256)) p (v / 256)) z
 
 pub put-length : (area : List ℕ) (i v : ℕ) → length (put_mark area i v) ≡ length area
 unfolding put_mark

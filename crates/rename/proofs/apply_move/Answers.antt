@@ -1,14 +1,11 @@
 -- `apply_move` meets its contract: made ready, swung, finished. Relies on specs/Apply.
 use Rattle.std.proofs.Common.{rules}
 use Rattle.rename.specs.Apply.{numbers-end, swing-asked, finish-asked, applied}
-use Rattle.image.specs.Prelude.{arith}
+use Rattle.image.specs.Prelude.{sym, length-take-le}
 use Rattle.rename.proofs.apply_move.Goals as goal
 
-pub overflow_mul-end : goal.overflow_mul-end
-overflow_mul-end c = omega (arith, numbers-end _ _ _ _ _ _ c.requires _ _ _ _ c.make_ready-count.ensures (search rules))
-
 pub slice_bounds-swing-end : goal.slice_bounds-swing-end
-slice_bounds-swing-end c = numbers-end _ _ _ _ _ _ c.requires _ _ _ _ c.make_ready-count.ensures (search rules)
+slice_bounds-swing-end c = sym (length-take-le _ _ (numbers-end _ _ _ _ _ _ c.requires _ _ _ _ c.make_ready-count.ensures (search rules)))
 
 pub swing-requires : goal.swing-requires
 swing-requires c = swing-asked _ _ _ _ _ _ c.requires _ _ _ _ c.make_ready-count.ensures (search rules)

@@ -1,6 +1,6 @@
 -- The call move from its steps: the questions in order, the path that stays, and the swing with the live count made right.
 -- Relies on slice/Moving's swung (what the swing leaves), on Prepared, and on finish's Finished.
-use Rattle.std.specs.Prelude.{ℕ, zero, suc, ◌+◌, ◌*◌, ◌-◌, ◌/◌, ◌≤◌, ◌≡◌, refl, List, Bool, true, false, ◌&&◌, not, length, take, drop}
+use Rattle.std.specs.Prelude.{ℕ, zero, suc, ◌+◌, ◌*◌, ◌-◌, ◌≤◌, ◌≡◌, refl, List, Bool, true, false, ◌&&◌, not, length, take}
 use Rattle.image.specs.Prelude.{sym, ap, ap₂, subst, ◌∙◌, false≢true, arith, length-take-le}
 use Rattle.image.specs.Bytes.{same, begins}
 use Rattle.image.specs.Path.{well_formed, proper_beginning, may_move}
@@ -97,28 +97,19 @@ stays-meets s w w' from to ok go e z =
 
 -- THE SWING
 -- the numbers of the free nodes, as the swing is handed them
-module _ (s s₁ w w₁ numbers free : List ℕ) (r : ℕ) (whole : whole_nodes (length s) ≡ true) (p : Prepared s s₁ w w₁ numbers r) (e : free ≡ take (r * 2 - 0) (drop 0 numbers))
-    (long : length numbers ≡ 2048) where
-  pub list-end : r * 2 ≤ length numbers
+module _ (s s₁ w w₁ numbers free : List ℕ) (r : ℕ) (whole : whole_nodes (length s) ≡ true) (p : Prepared s s₁ w w₁ numbers r) (e : free ≡ take r numbers)
+    (long : length numbers ≡ 1024) where
+  pub list-end : r ≤ length numbers
   list-end = let a = p.few_listed in omega arith
-
-  free-is : free ≡ take (r * 2) numbers
-  free-is = let z : r * 2 - 0 ≡ r * 2 = omega arith in e ∙ ap (λ n. take n numbers) z
-
-  free-size : length free ≡ r * 2
-  free-size = ap length free-is ∙ length-take-le (r * 2) numbers list-end
-
-  even-handed : 2 * (length free / 2) ≡ length free
-  even-handed = let a = free-size in omega arith
 
   handed-list : handed free ≡ listed r numbers 0
   unfolding handed handed_from
   handed-list =
-      let z : length free / 2 - 0 ≡ r = let a = free-size in omega arith in
-      ap₂ (λ k b. listed k b 0) z free-is ∙ listed-take r (r * 2) numbers 0 (omega arith)
+      let z : length free - 0 ≡ r = let a = ap length e ∙ length-take-le r numbers list-end in omega arith in
+      ap₂ (λ k b. listed k b 0) z e ∙ listed-take r r numbers 0 (omega arith)
 
 -- a store that was made ready, after the questions
-pub swing-asks : (s s₁ w w₁ numbers free from to : List ℕ) (r : ℕ) → whole_nodes (length s) ≡ true → Prepared s s₁ w w₁ numbers r → free ≡ take (r * 2 - 0) (drop 0 numbers) → length numbers ≡ 2048 → well_formed from ≡ true
+pub swing-asks : (s s₁ w w₁ numbers free from to : List ℕ) (r : ℕ) → whole_nodes (length s) ≡ true → Prepared s s₁ w w₁ numbers r → free ≡ take r numbers → length numbers ≡ 1024 → well_formed from ≡ true
     → well_formed to ≡ true → may_move from to ≡ true → same from to ≡ false → every_key well_formed (moved from to (table_of s)) ≡ true → SwingAsks s₁ free from to
 swing-asks s s₁ w w₁ numbers free from to r whole p e long a b c d q9 =
     record {
@@ -126,7 +117,6 @@ swing-asks s s₁ w w₁ numbers free from to r whole p e long a b c d q9 =
       is_sound = p.is_sound;
       is_settled = p.is_settled;
       low = p.low;
-      even = even-handed s s₁ w w₁ numbers free r whole p e long;
       supply = subst (Free s₁) (sym (handed-list s s₁ w w₁ numbers free r whole p e long)) p.supply;
       formed_from = a;
       formed_to = b;

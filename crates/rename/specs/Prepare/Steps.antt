@@ -48,29 +48,23 @@ free-length zero i is = omega arith
 free-length (suc c) i is =
     cases (is_in i is) (λ q. rw q (omega (arith, free-length c (suc i) is))) (λ q. rw q (omega (arith, free-length c (suc i) is)))
 
-u16-take : (m : ℕ) (xs : List ℕ) (j : ℕ) → j + 1 < m → u16 (take m xs) j ≡ u16 xs j
-unfolding u16
-u16-take m xs j h = ap₂ (λ a b. a + 256 * b) (get_or-take m xs j 0 (omega arith)) (get_or-take m xs (j + 1) 0 (omega arith))
-
-pub listed-take : (k m : ℕ) (xs : List ℕ) (i : ℕ) → (i + k) * 2 ≤ m → listed k (take m xs) i ≡ listed k xs i
+pub listed-take : (k m : ℕ) (xs : List ℕ) (i : ℕ) → i + k ≤ m → listed k (take m xs) i ≡ listed k xs i
 unfolding listed
 listed-take zero m xs i h = refl
-listed-take (suc k) m xs i h = ap₂ (λ a l. a ∷ l) (u16-take m xs (i * 2) (omega arith)) (listed-take k m xs (suc i) (omega arith))
+listed-take (suc k) m xs i h = ap₂ (λ a l. a ∷ l) (get_or-take m xs i 0 (omega arith)) (listed-take k m xs (suc i) (omega arith))
 
-listed-front : (k : ℕ) (xs ys : List ℕ) (i : ℕ) → (i + k) * 2 ≤ length xs → listed k (xs ++ ys) i ≡ listed k xs i
+listed-front : (k : ℕ) (xs ys : List ℕ) (i : ℕ) → i + k ≤ length xs → listed k (xs ++ ys) i ≡ listed k xs i
 listed-front k xs ys i h = sym (listed-take k (length xs) (xs ++ ys) i h) ∙ ap (λ l. listed k l i) (take-append_seam xs ys)
 
--- numbers written into the first bytes of a list are listed there
-pub listed-upper : (n r e : ℕ) (numbers part : List ℕ) → r ≡ n - n / 4 → e ≡ 2 * r → e ≤ length numbers → length part ≡ length (take (e - 0) (drop 0 numbers))
-    → handed part ≡ numbers_from (n / 4) (length (take (e - 0) (drop 0 numbers)) / 2)
-    → listed r (take 0 numbers ++ (part ++ drop (e - 0) (drop 0 numbers))) 0 ≡ numbers_from (n / 4) (n - n / 4)
+-- numbers written into the front of a list are listed there
+pub listed-upper : (n r : ℕ) (numbers part : List ℕ) → r ≡ n - n / 4 → r ≤ length numbers → length part ≡ length (take r numbers)
+    → handed part ≡ numbers_from (n / 4) (length (take r numbers)) → listed r (part ++ drop r numbers) 0 ≡ numbers_from (n / 4) (n - n / 4)
 unfolding handed handed_from
-listed-upper n r e numbers part q d room long h =
-    let z : e - 0 ≡ e = omega arith in
-    let l : length (take (e - 0) (drop 0 numbers)) ≡ e = rw z (length-take-le e numbers room) in
-    let many : length part / 2 - 0 ≡ r = omega arith in
-    let few : length (take (e - 0) (drop 0 numbers)) / 2 ≡ n - n / 4 = omega arith in
-    listed-front r part (drop (e - 0) (drop 0 numbers)) 0 (omega arith)
+listed-upper n r numbers part q room long h =
+    let l : length (take r numbers) ≡ r = length-take-le r numbers room in
+    let many : length part - 0 ≡ r = omega arith in
+    let few : length (take r numbers) ≡ n - n / 4 = omega arith in
+    listed-front r part (drop r numbers) 0 (omega arith)
     ∙ sym (ap (λ k. listed k part 0) many)
     ∙ h
     ∙ ap (numbers_from (n / 4)) few

@@ -1,5 +1,6 @@
 -- `slice_left` and `slice_cut` meet their contracts. The level falls from a node to its child. The page of a node is composed from the copy of the
 -- node, so that what the child writes does not matter to it. Relies on specs/LeftSteps.
+use Rattle.std.specs.Prelude.{refl}
 use Rattle.std.proofs.Common.{rules}
 use Rattle.slice.specs.LeftSteps.{left-inside, left-level, left-new, left_short, leaf-fits, leaf-written, branches-small, inner-fits, child-asks, inner-written, strip-short, strip-high, strip-asks, strip-bare, strip-written, inner-asks, last-asks, inner-places, last-places, inner-at, last-at, between-at, nowhere-at}
 use Rattle.node.specs.Pages.{page-written}
@@ -121,17 +122,14 @@ slice_cut-returns-in-Nowhere t c = nowhere-at c.args.store.now c.args.node.now c
 pub slice_left-read_node-requires : goal.slice_left-read_node-requires
 slice_left-read_node-requires t c = (left-inside c.args.store.now c.args.num c.args.slot.level c.args.lo.now c.args.hi.now c.args.k.now c.args.slot.at c.args.free.now c.requires.0, search rules)
 
-pub slice_left-overflow_mul-at : goal.slice_left-overflow_mul-at
-slice_left-overflow_mul-at t c = let e = c.requires.0.enough in let l = left-level c.args.store.now c.args.num c.args.slot.level c.args.lo.now c.args.hi.now c.args.k.now c.args.slot.at c.args.free.now c.requires.0 in omega arith
-
-pub slice_left-u16_at-new-requires : goal.slice_left-u16_at-new-requires
-slice_left-u16_at-new-requires t c = let e = c.requires.0.enough in let l = left-level c.args.store.now c.args.num c.args.slot.level c.args.lo.now c.args.hi.now c.args.k.now c.args.slot.at c.args.free.now c.requires.0 in omega arith
+pub slice_left-bounds-free-at : goal.slice_left-bounds-free-at
+slice_left-bounds-free-at t c = let e = c.requires.0.enough in let l = left-level c.args.store.now c.args.num c.args.slot.level c.args.lo.now c.args.hi.now c.args.k.now c.args.slot.at c.args.free.now c.requires.0 in omega arith
 
 pub slice_left-write_pairs-requires : goal.slice_left-write_pairs-requires
-slice_left-write_pairs-requires t c = let sh = left_short c.args.store.now c.args.num c.args.slot.level c.args.lo.now c.args.hi.now c.args.k.now c.args.slot.at c.args.free.now c.requires.0 c.requires.1 _ c.read_node.ensures c.u16_at-len.result c.u16_at-len.ensures.0 c.common_length-d.result c.common_length-d.ensures.0 in (omega arith, leaf-fits c.args.store.now c.args.num c.args.slot.level c.args.lo.now c.args.hi.now c.args.k.now c.args.slot.at c.args.free.now c.requires.0 c.requires.1 _ c.read_node.ensures c.u16_at-len.result c.u16_at-len.ensures.0 c.common_length-d.result c.common_length-d.ensures.0 (omega arith), left-new c.args.store.now c.args.num c.args.slot.level c.args.lo.now c.args.hi.now c.args.k.now c.args.slot.at c.args.free.now c.requires.0 c.u16_at-new.result c.u16_at-new.ensures.0)
+slice_left-write_pairs-requires t c = let sh = left_short c.args.store.now c.args.num c.args.slot.level c.args.lo.now c.args.hi.now c.args.k.now c.args.slot.at c.args.free.now c.requires.0 c.requires.1 _ c.read_node.ensures c.u16_at-len.result c.u16_at-len.ensures.0 c.common_length-d.result c.common_length-d.ensures.0 in (omega arith, leaf-fits c.args.store.now c.args.num c.args.slot.level c.args.lo.now c.args.hi.now c.args.k.now c.args.slot.at c.args.free.now c.requires.0 c.requires.1 _ c.read_node.ensures c.u16_at-len.result c.u16_at-len.ensures.0 c.common_length-d.result c.common_length-d.ensures.0 (omega arith), left-new c.args.store.now c.args.num c.args.slot.level c.args.lo.now c.args.hi.now c.args.k.now c.args.slot.at c.args.free.now c.requires.0 _ refl)
 
 pub slice_left-returns-then-level-le1 : goal.slice_left-returns-then-level-le1
-slice_left-returns-then-level-le1 t c = leaf-written c.args.store.now c.args.num c.args.slot.level c.args.lo.now c.args.hi.now c.args.k.now c.args.slot.at c.args.free.now c.requires.0 c.requires.1 _ c.read_node.ensures c.u16_at-len.result c.u16_at-len.ensures.0 c.common_length-d.result c.common_length-d.ensures.0 (omega arith) _ _ c.u16_at-new.ensures.0 c.write_pairs.ensures
+slice_left-returns-then-level-le1 t c = leaf-written c.args.store.now c.args.num c.args.slot.level c.args.lo.now c.args.hi.now c.args.k.now c.args.slot.at c.args.free.now c.requires.0 c.requires.1 _ c.read_node.ensures c.u16_at-len.result c.u16_at-len.ensures.0 c.common_length-d.result c.common_length-d.ensures.0 (omega arith) _ _ refl c.write_pairs.ensures
 
 pub slice_left-find_point-cut-requires : goal.slice_left-find_point-cut-requires
 slice_left-find_point-cut-requires t c = let sh = left_short c.args.store.now c.args.num c.args.slot.level c.args.lo.now c.args.hi.now c.args.k.now c.args.slot.at c.args.free.now c.requires.0 c.requires.1 _ c.read_node.ensures c.u16_at-len.result c.u16_at-len.ensures.0 c.common_length-d.result c.common_length-d.ensures.0 in (omega arith, omega arith)
@@ -139,21 +137,18 @@ slice_left-find_point-cut-requires t c = let sh = left_short c.args.store.now c.
 pub slice_left-overflow_add-next : goal.slice_left-overflow_add-next
 slice_left-overflow_add-next t c = let e = c.requires.0.enough in let l = left-level c.args.store.now c.args.num c.args.slot.level c.args.lo.now c.args.hi.now c.args.k.now c.args.slot.at c.args.free.now c.requires.0 in omega arith
 
-pub slice_left-overflow_mul-next : goal.slice_left-overflow_mul-next
-slice_left-overflow_mul-next t c = let e = c.requires.0.enough in let l = left-level c.args.store.now c.args.num c.args.slot.level c.args.lo.now c.args.hi.now c.args.k.now c.args.slot.at c.args.free.now c.requires.0 in omega arith
-
-pub slice_left-u16_at-child-requires : goal.slice_left-u16_at-child-requires
-slice_left-u16_at-child-requires t c = let e = c.requires.0.enough in let l = left-level c.args.store.now c.args.num c.args.slot.level c.args.lo.now c.args.hi.now c.args.k.now c.args.slot.at c.args.free.now c.requires.0 in omega arith
+pub slice_left-bounds-free-next : goal.slice_left-bounds-free-next
+slice_left-bounds-free-next t c = let e = c.requires.0.enough in let l = left-level c.args.store.now c.args.num c.args.slot.level c.args.lo.now c.args.hi.now c.args.k.now c.args.slot.at c.args.free.now c.requires.0 in omega arith
 
 pub slice_left-emit_left-end-requires : goal.slice_left-emit_left-end-requires
-slice_left-emit_left-end-requires t c = let sh = left_short c.args.store.now c.args.num c.args.slot.level c.args.lo.now c.args.hi.now c.args.k.now c.args.slot.at c.args.free.now c.requires.0 c.requires.1 _ c.read_node.ensures c.u16_at-len.result c.u16_at-len.ensures.0 c.common_length-d.result c.common_length-d.ensures.0 in let f = inner-fits c.args.store.now c.args.num c.args.slot.level c.args.lo.now c.args.hi.now c.args.k.now c.args.slot.at c.args.free.now c.requires.0 c.requires.1 _ c.read_node.ensures c.u16_at-len.result c.u16_at-len.ensures.0 c.common_length-d.result c.common_length-d.ensures.0 (omega arith) c.find_point-cut.result c.find_point-cut.ensures c.u16_at-child.result c.u16_at-child.ensures.0 in (omega arith, c.find_point-cut.ensures.fits, omega arith, omega arith, branches-small c.args.store.now c.args.num c.args.slot.level c.args.lo.now c.args.hi.now c.args.k.now c.args.slot.at c.args.free.now c.requires.0 c.requires.1 _ c.read_node.ensures c.u16_at-len.result c.u16_at-len.ensures.0 c.common_length-d.result c.common_length-d.ensures.0 (omega arith), c.u16_at-child.ensures.1)
+slice_left-emit_left-end-requires t c = let sh = left_short c.args.store.now c.args.num c.args.slot.level c.args.lo.now c.args.hi.now c.args.k.now c.args.slot.at c.args.free.now c.requires.0 c.requires.1 _ c.read_node.ensures c.u16_at-len.result c.u16_at-len.ensures.0 c.common_length-d.result c.common_length-d.ensures.0 in let f = inner-fits c.args.store.now c.args.num c.args.slot.level c.args.lo.now c.args.hi.now c.args.k.now c.args.slot.at c.args.free.now c.requires.0 c.requires.1 _ c.read_node.ensures c.u16_at-len.result c.u16_at-len.ensures.0 c.common_length-d.result c.common_length-d.ensures.0 (omega arith) c.find_point-cut.result c.find_point-cut.ensures _ refl in (omega arith, c.find_point-cut.ensures.fits, omega arith, omega arith, branches-small c.args.store.now c.args.num c.args.slot.level c.args.lo.now c.args.hi.now c.args.k.now c.args.slot.at c.args.free.now c.requires.0 c.requires.1 _ c.read_node.ensures c.u16_at-len.result c.u16_at-len.ensures.0 c.common_length-d.result c.common_length-d.ensures.0 (omega arith), search rules)
 
 pub slice_left-slice_cut-requires : goal.slice_left-slice_cut-requires
-slice_left-slice_cut-requires t c = (omega arith, (c.find_point-cut.ensures.fits, child-asks c.args.store.now c.args.num c.args.slot.level c.args.lo.now c.args.hi.now c.args.k.now c.args.slot.at c.args.free.now c.requires.0 c.requires.1 _ c.read_node.ensures c.u16_at-len.result c.u16_at-len.ensures.0 c.common_length-d.result c.common_length-d.ensures.0 (omega arith) c.find_point-cut.result c.find_point-cut.ensures c.u16_at-child.result c.u16_at-child.ensures.0))
+slice_left-slice_cut-requires t c = (omega arith, (c.find_point-cut.ensures.fits, child-asks c.args.store.now c.args.num c.args.slot.level c.args.lo.now c.args.hi.now c.args.k.now c.args.slot.at c.args.free.now c.requires.0 c.requires.1 _ c.read_node.ensures c.u16_at-len.result c.u16_at-len.ensures.0 c.common_length-d.result c.common_length-d.ensures.0 (omega arith) c.find_point-cut.result c.find_point-cut.ensures _ refl))
 
 pub slice_left-write_page-requires : goal.slice_left-write_page-requires
-slice_left-write_page-requires t c = let r = left-new c.args.store.now c.args.num c.args.slot.level c.args.lo.now c.args.hi.now c.args.k.now c.args.slot.at c.args.free.now c.requires.0 c.u16_at-new.result c.u16_at-new.ensures.0 in let f = inner-fits c.args.store.now c.args.num c.args.slot.level c.args.lo.now c.args.hi.now c.args.k.now c.args.slot.at c.args.free.now c.requires.0 c.requires.1 _ c.read_node.ensures c.u16_at-len.result c.u16_at-len.ensures.0 c.common_length-d.result c.common_length-d.ensures.0 (omega arith) c.find_point-cut.result c.find_point-cut.ensures c.u16_at-child.result c.u16_at-child.ensures.0 in let v = c.requires.0.levels in (omega arith, search rules, omega arith, omega arith, omega arith)
+slice_left-write_page-requires t c = let r = left-new c.args.store.now c.args.num c.args.slot.level c.args.lo.now c.args.hi.now c.args.k.now c.args.slot.at c.args.free.now c.requires.0 _ refl in let f = inner-fits c.args.store.now c.args.num c.args.slot.level c.args.lo.now c.args.hi.now c.args.k.now c.args.slot.at c.args.free.now c.requires.0 c.requires.1 _ c.read_node.ensures c.u16_at-len.result c.u16_at-len.ensures.0 c.common_length-d.result c.common_length-d.ensures.0 (omega arith) c.find_point-cut.result c.find_point-cut.ensures _ refl in let v = c.requires.0.levels in (omega arith, search rules, omega arith, omega arith, omega arith)
 
 pub slice_left-returns : goal.slice_left-returns
 unfolding zeros_of
-slice_left-returns t c = inner-written c.args.store.now c.args.num c.args.slot.level c.args.lo.now c.args.hi.now c.args.k.now c.args.slot.at c.args.free.now c.requires.0 c.requires.1 _ c.read_node.ensures c.u16_at-len.result c.u16_at-len.ensures.0 c.common_length-d.result c.common_length-d.ensures.0 (omega arith) c.find_point-cut.result c.find_point-cut.ensures c.u16_at-child.result c.u16_at-child.ensures.0 _ _ _ c.u16_at-new.ensures.0 c.slice_cut.ensures (page-written _ _ _ c.u16_at-new.result 2 c.args.slot.level c.emit_left-end.result _ (inner-fits c.args.store.now c.args.num c.args.slot.level c.args.lo.now c.args.hi.now c.args.k.now c.args.slot.at c.args.free.now c.requires.0 c.requires.1 _ c.read_node.ensures c.u16_at-len.result c.u16_at-len.ensures.0 c.common_length-d.result c.common_length-d.ensures.0 (omega arith) c.find_point-cut.result c.find_point-cut.ensures c.u16_at-child.result c.u16_at-child.ensures.0) c.emit_left-end.ensures.0 c.emit_left-end.ensures.1 c.write_page.ensures)
+slice_left-returns t c = inner-written c.args.store.now c.args.num c.args.slot.level c.args.lo.now c.args.hi.now c.args.k.now c.args.slot.at c.args.free.now c.requires.0 c.requires.1 _ c.read_node.ensures c.u16_at-len.result c.u16_at-len.ensures.0 c.common_length-d.result c.common_length-d.ensures.0 (omega arith) c.find_point-cut.result c.find_point-cut.ensures _ refl _ _ _ refl c.slice_cut.ensures (page-written _ _ _ _ 2 c.args.slot.level c.emit_left-end.result _ (inner-fits c.args.store.now c.args.num c.args.slot.level c.args.lo.now c.args.hi.now c.args.k.now c.args.slot.at c.args.free.now c.requires.0 c.requires.1 _ c.read_node.ensures c.u16_at-len.result c.u16_at-len.ensures.0 c.common_length-d.result c.common_length-d.ensures.0 (omega arith) c.find_point-cut.result c.find_point-cut.ensures _ refl) c.emit_left-end.ensures.0 c.emit_left-end.ensures.1 c.write_page.ensures)

@@ -1,4 +1,5 @@
 -- `cut_range` meets its contract: each cut asks what RangeAsks says of its image. Relies on specs/Code.
+use Rattle.std.specs.Prelude.{refl}
 use Rattle.swing.specs.Code.{then-right, then-inner, range-done}
 use Rattle.slice.specs.Callers.{top-bare}
 use Rattle.image.specs.Prelude.{arith}
@@ -11,7 +12,7 @@ pub slice_right-parts-requires : goal.slice_right-parts-requires
 slice_right-parts-requires c = (then-right _ _ _ _ _ _ _ c.requires.0 _ c.slice_left.ensures, omega (arith, c.requires.1), omega (arith, c.requires.1, c.requires.0.short))
 
 pub slice_left-requires-2 : goal.slice_left-requires-2
-slice_left-requires-2 c = (then-inner _ _ _ _ _ _ _ c.requires.0 _ c.slice_left.ensures _ _ _ c.slice_right-parts.ensures _ c.u16_at-inner.ensures.0, top-bare _)
+slice_left-requires-2 c = (then-inner _ _ _ _ _ _ _ c.requires.0 _ c.slice_left.ensures _ _ _ c.slice_right-parts.ensures _ refl, top-bare _)
 
 pub returns : goal.returns
-returns c = range-done _ _ _ _ _ _ _ c.requires.0 _ c.slice_left.ensures _ _ _ c.slice_right-parts.ensures _ c.u16_at-inner.ensures.0 _ c.slice_left-2.ensures
+returns c = range-done _ _ _ _ _ _ _ c.requires.0 _ c.slice_left.ensures _ _ _ c.slice_right-parts.ensures _ refl _ c.slice_left-2.ensures

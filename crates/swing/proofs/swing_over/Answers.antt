@@ -1,21 +1,7 @@
 -- `swing_over` meets its contract: the ends of the two ranges are laid down. Relies on specs/Asked.
 use Rattle.swing.specs.Asked.{end-laid, past-plan, over_done}
-use Rattle.swing.specs.Steps.{past-length}
 use Rattle.std.specs.Prelude.{refl}
-use Rattle.image.specs.Prelude.{arith}
 use Rattle.swing.proofs.swing_over.Goals as goal
-
-pub put_past-requires : goal.put_past-requires
-put_past-requires c = omega (arith, c.requires.short_p, past-length c.args.p.now)
-
-pub put_past-requires-2 : goal.put_past-requires-2
-put_past-requires-2 c = omega (arith, c.requires.short_r, past-length c.args.r.now)
-
-pub slice_bounds-swing_between-end : goal.slice_bounds-swing_between-end
-slice_bounds-swing_between-end c = omega (arith, c.requires.short_p, past-length c.args.p.now)
-
-pub slice_bounds-swing_between-end-2 : goal.slice_bounds-swing_between-end-2
-slice_bounds-swing_between-end-2 c = omega (arith, c.requires.short_r, past-length c.args.r.now)
 
 pub swing_between-requires : goal.swing_between-requires
 swing_between-requires c = past-plan _ _ _ _ _ _ _ c.requires (end-laid c.args.p.now _ _ _ refl c.put_past.ensures) (end-laid c.args.r.now _ _ _ refl c.put_past-2.ensures)

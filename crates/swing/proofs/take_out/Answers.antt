@@ -1,14 +1,11 @@
 -- `take_out` meets its contract: the tail, then the gap. Relies on specs/Code.
 use Rattle.std.proofs.Common.{rules}
-use Rattle.swing.specs.Code.{tail-asked, front-short, gap-asked, out-done}
+use Rattle.swing.specs.Code.{tail-asked, front-short, out-done}
 use Rattle.image.specs.Prelude.{arith}
 use Rattle.swing.proofs.take_out.Goals as goal
 
 pub slice_right-requires : goal.slice_right-requires
 slice_right-requires c = (tail-asked _ _ _ _ _ c.requires, search rules, omega (arith, front-short _ _ _ _ _ c.requires))
-
-pub write_gap-requires : goal.write_gap-requires
-write_gap-requires c = gap-asked _ _ _ _ _ c.requires _ _ _ c.slice_right.ensures
 
 pub returns : goal.returns
 returns c = out-done _ _ _ _ _ c.requires _ _ _ c.slice_right.ensures _ c.write_gap.ensures

@@ -1,9 +1,7 @@
 -- The steps of free_list: what is listed so far, with what is still to be looked at, is the whole list.
 -- Relies on packed's laws of numbers put one after another.
-use Rattle.std.specs.Prelude.{ℕ, zero, suc, ◌+◌, ◌*◌, ◌-◌, ◌≤◌, ◌<◌, ◌≡◌, refl, List, [], ◌∷◌, ◌++◌, Bool, true, false, length, get_or, eqb}
-use Rattle.image.specs.Prelude.{sym, ap, ap₂, ◌∙◌, append_assoc, append-nil, arith, eq-eqb, ne_eqb}
-use Rattle.image.specs.Bytes.{u16, u16_bytes}
-use Rattle.octets.specs.Put.{put, u16-there}
+use Rattle.std.specs.Prelude.{ℕ, zero, suc, ◌+◌, ◌-◌, ◌≤◌, ◌<◌, ◌≡◌, refl, List, [], ◌∷◌, ◌++◌, Bool, true, false, length, get_or, eqb, set}
+use Rattle.image.specs.Prelude.{sym, ap, ap₂, ◌∙◌, append_assoc, append-nil, arith, eq-eqb, ne_eqb, get_or-set_same}
 use Rattle.packed.specs.Build.Handed.{listed}
 use Rattle.packed.specs.Build.CountSteps.{listed-end, listed-alike, number-before}
 use Rattle.swing.specs.Spare.Spare.{unmarked}
@@ -17,17 +15,16 @@ pub note-marked : (seen b : List ℕ) (k i : ℕ) → (get_or seen i 0 ≡ 0 →
 unfolding unmarked
 note-marked seen b k i h = rw (ne_eqb (get_or seen i 0) 0 h) (sym (append-nil (listed k b 0)))
 
-pub note-unmarked : (seen b b' : List ℕ) (k i : ℕ) → k * 2 + 2 ≤ length b → get_or seen i 0 ≡ 0 → b' ≡ put b (k * 2) (u16_bytes i)
-    → listed (k + 1) b' 0 ≡ listed k b 0 ++ unmarked 1 i seen
+pub note-unmarked : (seen b : List ℕ) (k i : ℕ) → k < length b → get_or seen i 0 ≡ 0 → listed (k + 1) (set b k i) 0 ≡ listed k b 0 ++ unmarked 1 i seen
 unfolding unmarked
-note-unmarked seen b b' k i r h q =
+note-unmarked seen b k i r h =
     let y : k + 1 ≡ suc k = omega arith in
-    let x : (0 + k) * 2 ≡ k * 2 = omega arith in
-    ap (λ c. listed c b' 0) y
-    ∙ listed-end k b' 0
+    let x : 0 + k ≡ k = omega arith in
+    ap (λ c. listed c (set b k i) 0) y
+    ∙ listed-end k (set b k i) 0
     ∙ ap₂ (λ l m. l ++ (m ∷ []))
-    (ap (λ a. listed k a 0) q ∙ listed-alike k b (put b (k * 2) (u16_bytes i)) 0 (λ t p. number-before b k i t (omega arith) (omega arith)))
-    (ap₂ (λ a p. u16 a p) q x ∙ u16-there b (k * 2) i (omega arith))
+    (listed-alike k b (set b k i) 0 (λ t p. number-before b k i t (omega arith)))
+    (ap (λ p. get_or (set b k i) p 0) x ∙ get_or-set_same b k i 0 r)
     ∙ sym (ap (λ l. listed k b 0 ++ l) (rw (eq-eqb (get_or seen i 0) 0 h)))
 
 -- THE LOOP

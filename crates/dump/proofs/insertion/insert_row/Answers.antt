@@ -9,11 +9,11 @@ put_row-requires c = let a = c.args in
     let h = c.requires in
     let i = c.place_of-i.result in
     let f = fit-front a.area.now i a.m h.0 (omega arith) (omega arith) _ c.move_rows.ensures in
-    (f, omega arith, omega arith, omega arith)
+    (f, omega arith)
 
 pub returns : goal.returns
 returns c = let a = c.args in
     let h = c.requires in
     let i = c.place_of-i.result in
     inserted a.area.now i a.m h.0 (omega arith) (omega arith) _ c.move_rows.ensures
-    a.path.now a.value.now _ (omega arith) c.put_row.ensures a.from c.place_of-i.ensures.0 h.6
+    a.row.path.now a.row.value.now _ (omega arith) c.put_row.ensures a.from c.place_of-i.ensures.0 h.4

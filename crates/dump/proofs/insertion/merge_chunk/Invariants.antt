@@ -1,11 +1,7 @@
--- The loop of `merge_chunk`: some of the rows set aside are to come in, and those behind them are done. The measure is how many are left. Relies on
+-- The loop of `merge_chunk`: some of the rows set aside are to come in, and those behind them are done. Relies on
 -- specs/Insertion/MergeSteps.
-use Rattle.std.specs.Prelude.{◌≡◌, length}
 use Rattle.dump.specs.Insertion.MergeSteps.{Aside, Merging}
 use Rattle.dump.proofs.insertion.merge_chunk.Given as goal
 
 abbrev pub invariant-loop-left : goal.invariant-loop-left
-invariant-loop-left l = (length l.area ≡ length l.initial.area) × Aside l.initial.area l.aside l.middle l.end × Merging l.initial.area l.aside l.area l.first l.middle l.end l.high l.left
-
-abbrev pub decreases-loop-left : goal.decreases-loop-left
-decreases-loop-left l = l.left
+invariant-loop-left l = Aside l.initial.area l.aside l.middle l.end × Merging l.initial.area l.aside l.area l.first l.middle l.end l.high l.left

@@ -5,4 +5,4 @@ use Rattle.rename.specs.Prepare.Steps.{listed-upper}
 use Rattle.rename.proofs.prepare.list_upper.Goals as goal
 
 pub returns : goal.returns
-returns c = (refl, listed-upper c.args.n _ _ c.args.numbers.now _ refl refl (omega arith) c.count_numbers.auto.numbers c.count_numbers.ensures)
+returns c = (refl, listed-upper c.args.n _ c.args.numbers.now _ refl (omega arith) c.count_numbers.auto.numbers c.count_numbers.ensures)

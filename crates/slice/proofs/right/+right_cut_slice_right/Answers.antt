@@ -122,17 +122,14 @@ slice_right-overflow_add-two t c = let e = c.requires.0.enough in let l = right-
 pub slice_right-read_node-requires : goal.slice_right-read_node-requires
 slice_right-read_node-requires t c = (right-inside c.args.tree.wide c.args.store.now c.args.tree.num c.args.tree.level [] c.args.hi.now c.args.k.now c.args.tree.at c.args.free.now c.requires.0, search rules)
 
-pub slice_right-overflow_mul-at : goal.slice_right-overflow_mul-at
-slice_right-overflow_mul-at t c = let e = c.requires.0.enough in let l = right-level c.args.tree.wide c.args.store.now c.args.tree.num c.args.tree.level [] c.args.hi.now c.args.k.now c.args.tree.at c.args.free.now c.requires.0 in omega arith
-
-pub slice_right-u16_at-new-requires : goal.slice_right-u16_at-new-requires
-slice_right-u16_at-new-requires t c = let e = c.requires.0.enough in let l = right-level c.args.tree.wide c.args.store.now c.args.tree.num c.args.tree.level [] c.args.hi.now c.args.k.now c.args.tree.at c.args.free.now c.requires.0 in omega arith
+pub slice_right-bounds-free-at : goal.slice_right-bounds-free-at
+slice_right-bounds-free-at t c = let e = c.requires.0.enough in let l = right-level c.args.tree.wide c.args.store.now c.args.tree.num c.args.tree.level [] c.args.hi.now c.args.k.now c.args.tree.at c.args.free.now c.requires.0 in omega arith
 
 pub slice_right-write_pairs-requires : goal.slice_right-write_pairs-requires
-slice_right-write_pairs-requires t c = let sh = right_short c.args.tree.wide c.args.store.now c.args.tree.num c.args.tree.level [] c.args.hi.now c.args.k.now c.args.tree.at c.args.free.now c.requires.0 (top-bare c.args.hi.now) _ c.read_node.ensures c.u16_at-len.result c.u16_at-len.ensures.0 in (omega arith, leaf-fits c.args.tree.wide c.args.store.now c.args.tree.num c.args.tree.level [] c.args.hi.now c.args.k.now c.args.tree.at c.args.free.now c.requires.0 (top-bare c.args.hi.now) _ c.read_node.ensures c.u16_at-len.result c.u16_at-len.ensures.0 (omega arith) c.common_length-d.result c.common_length-d.ensures.0, right_new c.args.tree.wide c.args.store.now c.args.tree.num c.args.tree.level [] c.args.hi.now c.args.k.now c.args.tree.at c.args.free.now c.requires.0 c.u16_at-new.result c.u16_at-new.ensures.0)
+slice_right-write_pairs-requires t c = let sh = right_short c.args.tree.wide c.args.store.now c.args.tree.num c.args.tree.level [] c.args.hi.now c.args.k.now c.args.tree.at c.args.free.now c.requires.0 (top-bare c.args.hi.now) _ c.read_node.ensures c.u16_at-len.result c.u16_at-len.ensures.0 in (omega arith, leaf-fits c.args.tree.wide c.args.store.now c.args.tree.num c.args.tree.level [] c.args.hi.now c.args.k.now c.args.tree.at c.args.free.now c.requires.0 (top-bare c.args.hi.now) _ c.read_node.ensures c.u16_at-len.result c.u16_at-len.ensures.0 (omega arith) c.common_length-d.result c.common_length-d.ensures.0, right_new c.args.tree.wide c.args.store.now c.args.tree.num c.args.tree.level [] c.args.hi.now c.args.k.now c.args.tree.at c.args.free.now c.requires.0 _ refl)
 
 pub slice_right-returns-then-level-le1 : goal.slice_right-returns-then-level-le1
-slice_right-returns-then-level-le1 t c = leaf-done c.args.tree.wide c.args.store.now c.args.tree.num c.args.tree.level [] c.args.hi.now c.args.k.now c.args.tree.at c.args.free.now c.requires.0 (top-bare c.args.hi.now) _ c.read_node.ensures c.u16_at-len.result c.u16_at-len.ensures.0 (omega arith) c.common_length-d.result c.common_length-d.ensures.0 c.args.lift.now _ _ _ c.u16_at-new.ensures.0 c.write_pairs.ensures
+slice_right-returns-then-level-le1 t c = leaf-done c.args.tree.wide c.args.store.now c.args.tree.num c.args.tree.level [] c.args.hi.now c.args.k.now c.args.tree.at c.args.free.now c.requires.0 (top-bare c.args.hi.now) _ c.read_node.ensures c.u16_at-len.result c.u16_at-len.ensures.0 (omega arith) c.common_length-d.result c.common_length-d.ensures.0 c.args.lift.now _ _ _ refl c.write_pairs.ensures
 
 pub slice_right-find_point-cut-requires : goal.slice_right-find_point-cut-requires
 slice_right-find_point-cut-requires t c = let sh = right_short c.args.tree.wide c.args.store.now c.args.tree.num c.args.tree.level [] c.args.hi.now c.args.k.now c.args.tree.at c.args.free.now c.requires.0 (top-bare c.args.hi.now) _ c.read_node.ensures c.u16_at-len.result c.u16_at-len.ensures.0 in (omega arith, omega arith)

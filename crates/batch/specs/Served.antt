@@ -1,13 +1,14 @@
 -- What a batch keeps from turn to turn, and what each part of it promises.
 -- Relies on image's Batch (requests, answers, the contract) and on questions (1 and 2 are a yes).
-use Rattle.std.specs.Prelude.{ℕ, ◌+◌, ◌-◌, ◌<◌, ◌≤◌, ◌≡◌, List, [], ◌++◌, length, drop}
+use Rattle.std.specs.Prelude.{ℕ, ◌+◌, ◌-◌, ◌<◌, ◌≤◌, ◌≡◌, List, [], ◌++◌, length, drop, Result, Some, None}
+use Rattle.std.specs.Prelude as std
 use Rattle.image.specs.Prelude.{Option, none, some}
 use Rattle.image.specs.Image.{nodes_of}
 use Rattle.image.specs.Calls.{Answer}
 use Rattle.image.specs.Contract.{Meets, Run}
 use Rattle.image.specs.Answers.{outcome_answer}
 use Rattle.image.specs.Batch.{Request, first_request, behind, requests_of, call_of, calls_of, answer_bytes, answers_bytes, most_bytes, HadRoom, zeroed, BatchRuns}
-use Rattle.image.specs.declared.Outcome.{Outcome}
+use Rattle.image.specs.declared.Refusal.{Refusal}
 use Rattle.octets.specs.Put.{put}
 use Rattle.questions.specs.Acted.{Passed}
 use Rattle.batch.specs.declared.Turn.{Turn}
@@ -19,7 +20,7 @@ pub record Fresh (s w : List ℕ) : Type 0 where
   pub zero_area : w ≡ zeroed (nodes_of (length s)) w
 
 -- a change made: its contract, and the work area as it was
-pub record Served (s w : List ℕ) (q : Request) (r : Outcome) (s' w' : List ℕ) : Type 0 where
+pub record Served (s w : List ℕ) (q : Request) (r : Result (Unit {0}) Refusal) (s' w' : List ℕ) : Type 0 where
   pub met : Meets s (call_of w q) (outcome_answer r) s' w
   pub area : w' ≡ w
 
@@ -52,9 +53,9 @@ unfoldable pub Halts : Option Request → ℕ → Type 0
 Halts none room = Unit {0}
 Halts (some r) room = room < most_bytes r
 
-unfoldable pub Turned : List ℕ → List ℕ → List ℕ → ℕ → List ℕ → ℕ → List ℕ → List ℕ → List ℕ → Turn → Type 0
-Turned s w calls at out written s' w' out' Turn.Stop = (s' ≡ s) × (w' ≡ w) × (out' ≡ out) × Halts (first_request (drop at calls)) (length out - written)
-Turned s w calls at out written s' w' out' (Turn.Goes end written') = Goes s w calls at out written s' w' out' end written'
+unfoldable pub Turned : List ℕ → List ℕ → List ℕ → ℕ → List ℕ → ℕ → List ℕ → List ℕ → List ℕ → std.Option Turn → Type 0
+Turned s w calls at out written s' w' out' None = (s' ≡ s) × (w' ≡ w) × (out' ≡ out) × Halts (first_request (drop at calls)) (length out - written)
+Turned s w calls at out written s' w' out' (Some t) = Goes s w calls at out written s' w' out' t.end t.behind
 
 -- the turns so far: the requests before a place are a run of calls, whose answers stand in front
 pub record SoFar (s₀ w₀ calls out₀ s w out : List ℕ) (at done written : ℕ) : Type 0 where

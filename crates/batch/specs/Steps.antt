@@ -1,6 +1,7 @@
 -- The calls of a batch: what each part of the code leaves, from the contracts of the calls' own parts.
 -- Relies on questions (Acted), requests (what was read) and image's Batch.
-use Rattle.std.specs.Prelude.{ℕ, zero, suc, ◌+◌, ◌-◌, ◌<◌, ◌≤◌, ◌≡◌, refl, List, [], ◌++◌, length, take, drop}
+use Rattle.std.specs.Prelude.{ℕ, zero, suc, ◌+◌, ◌-◌, ◌<◌, ◌≤◌, ◌≡◌, refl, List, [], ◌++◌, length, take, drop, Result, Ok, Err, Some, None}
+use Rattle.std.specs.Prelude as std
 use Rattle.image.specs.Prelude.{sym, ap, subst, ◌∙◌, some, arith, length-append, length-take}
 use Rattle.image.specs.Bytes.{u16_bytes}
 use Rattle.image.specs.Path.{path_limit, value_limit}
@@ -9,9 +10,8 @@ use Rattle.image.specs.Calls as calls
 use Rattle.image.specs.Calls.{Act, Upkeep, acts, keeps, asks}
 use Rattle.image.specs.Contract.{first_no_on, work_at, Meets}
 use Rattle.image.specs.Answers.{outcome_answer, found_answer}
-use Rattle.image.specs.Batch.{Request, acting, keeping, first_request, behind, call_of, fresh_buffer, answer_bytes, most_bytes}
-use Rattle.image.specs.declared.Outcome.{Outcome}
-use Rattle.image.specs.declared.Found.{Found}
+use Rattle.image.specs.Batch.{acting, keeping, first_request, call_of, fresh_buffer, answer_bytes, most_bytes}
+use Rattle.image.specs.declared.Refusal.{Refusal}
 use Rattle.octets.specs.Put.{put}
 use Rattle.node.specs.declared.Place.{Place}
 use Rattle.node.specs.Places.{part, Within}
@@ -21,12 +21,11 @@ use Rattle.requests.specs.declared.Change.{Change}
 use Rattle.requests.specs.declared.Query.{Query}
 use Rattle.requests.specs.declared.Piece.{Piece}
 use Rattle.requests.specs.declared.Reading.{Reading}
-use Rattle.requests.specs.Pieces.{change_in, query_in, request_in, ChangeWithin, QueryWithin, PieceWithin, Reads, query_most}
-use Rattle.batch.specs.declared.Turn.{Turn}
+use Rattle.requests.specs.Pieces.{change_in, query_in, request_in, ChangeWithin, QueryWithin, PieceWithin, Reads, ReadsPiece, query_most}
 use Rattle.batch.specs.Served.{Fresh, Served, Written, Halts, Turned}
 
 -- A CALL MADE
-module _ (s w s' w' : List ℕ) (f : Fresh s w) (r : Outcome) where
+module _ (s w s' w' : List ℕ) (f : Fresh s w) (r : Result (Unit {0}) Refusal) where
   pub served-act : (a : Act) → Acted s (acts a w) r s' w w' → Served s w (acting a) r s' w'
   unfolding call_of
   served-act a h = record { met = acted-zero s (acts a w) r s' w w' f.passed h f.zero_area; area = acted-kept s (acts a w) r s' w w' f.passed h f.zero_area }
@@ -71,7 +70,7 @@ module _ (n : ℕ) (c : Change) (h : ChangeWithin n c) where
   unfolding ChangeWithin
   move-within p q e = subst (ChangeWithin n) e h
 
-module _ (s w b s' w' : List ℕ) (r : Outcome) (c : Change) where
+module _ (s w b s' w' : List ℕ) (r : Result (Unit {0}) Refusal) (c : Change) where
   made : (x : Change) → c ≡ x → Served s w (change_in b x) r s' w' → Served s w (change_in b c) r s' w'
   made x e h = subst (λ y. Served s w (change_in b y) r s' w') (sym e) h
 
@@ -108,12 +107,12 @@ module _ (s w b s' w' : List ℕ) (r : Outcome) (c : Change) where
   made-heal i e h = made (Change.Heal i) e h
 
 -- A QUERY ANSWERED
-bytes-short : (found : Found) (buffer : List ℕ) → length (answer_bytes (found_answer found buffer)) ≤ 4 + found_length found
+bytes-short : (found : Result ℕ Refusal) (buffer : List ℕ) → length (answer_bytes (found_answer found buffer)) ≤ 4 + found_length found
 unfolding answer_bytes found_answer found_length
-bytes-short (Found.Length n) buffer = let a = length-append (u16_bytes n ++ u16_bytes 0) (take n buffer) in let t = length-take n buffer in omega arith
-bytes-short (Found.Refused q) buffer = omega arith
+bytes-short (Ok n) buffer = let a = length-append (u16_bytes n ++ u16_bytes 0) (take n buffer) in let t = length-take n buffer in omega arith
+bytes-short (Err q) buffer = omega arith
 
-module _ (s b out out' buffer : List ℕ) (at end : ℕ) (found : Found) (q : Query)
+module _ (s b out out' buffer : List ℕ) (at end : ℕ) (found : Result ℕ Refusal) (q : Query)
     (written : (out' ≡ put out at (answer_bytes (found_answer found buffer))) × (end ≡ at + length (answer_bytes (found_answer found buffer))))
     (room : at + query_most q ≤ length out) where
   pub got : (p : Place) → q ≡ Query.Get p → found_length found ≤ value_limit → Meets s (asks (calls.get (part b p)) fresh_buffer) (found_answer found buffer) s []
@@ -163,60 +162,59 @@ unfolding most_bytes query_in query_most
 most-query b (Query.Get p) = refl
 most-query b (Query.Next p q) = refl
 
-module _ (b : List ℕ) (at : ℕ) (r : Reading) (reads : Reads b at r) where
-  first-is : (x : Piece) → r.piece ≡ x → first_request (drop at b) ≡ request_in b x
-  first-is x e = reads.first.reads ∙ ap (request_in b) e
+module _ (b : List ℕ) (at : ℕ) where
+  pub reads-piece : (r : Reading) → Reads b at (Some r) → ReadsPiece b at r
+  unfolding Reads
+  reads-piece r x = x
+
+  -- a piece that reads ends behind its place
+  pub reads-next : (o : std.Option Reading) (r : Reading) → Reads b at o → o ≡ Some r → (at < r.end) × (r.end ≤ length b)
+  reads-next o r x e = let p = reads-piece r (subst (Reads b at) e x) in (p.moves, p.high)
+
+  -- nothing reads: the batch stops
+  pub turn-none : (s w out : List ℕ) (written : ℕ) → Reads b at None → Turned s w b at out written s w out None
+  unfolding Turned Reads Halts
+  turn-none s w out written e = (refl, refl, refl, rw e tt)
+
+module _ (b : List ℕ) (at : ℕ) (r : Reading) (reads : ReadsPiece b at r) where
+  first-is : (x : Piece) → r.piece ≡ x → first_request (drop at b) ≡ some (request_in b x)
+  first-is x e = reads.first ∙ ap (λ y. some (request_in b y)) e
 
   pub change-within : (c : Change) → r.piece ≡ Piece.Change c → ChangeWithin (length b) c
   unfolding PieceWithin
-  change-within c e = subst (PieceWithin (length b)) e reads.first.within
+  change-within c e = subst (PieceWithin (length b)) e reads.within
 
   pub query-within : (q : Query) → r.piece ≡ Piece.Query q → QueryWithin (length b) q
   unfolding PieceWithin
-  query-within q e = subst (PieceWithin (length b)) e reads.first.within
-
-  behind-is : (x : Piece) (q : Request) → r.piece ≡ x → request_in b x ≡ some q → (behind (drop at b) ≡ drop r.end b) × (at < r.end)
-  behind-is x q e f = reads.later q (ap (request_in b) e ∙ f)
-
-  -- a piece that reads ends behind its place
-  pub change-moves : (c : Change) → r.piece ≡ Piece.Change c → (at < r.end) × (r.end ≤ length b)
-  change-moves c e = ((behind-is (Piece.Change c) (change_in b c) e (unfold request_in in refl)).1, reads.high)
-
-  pub query-moves : (q : Query) → r.piece ≡ Piece.Query q → (at < r.end) × (r.end ≤ length b)
-  query-moves q e = ((behind-is (Piece.Query q) (query_in b q) e (unfold request_in in refl)).1, reads.high)
+  query-within q e = subst (PieceWithin (length b)) e reads.within
 
   module _ (s w out : List ℕ) (written : ℕ) where
-    pub turn-none : r.piece ≡ Piece.None → Turned s w b at out written s w out Turn.Stop
-    unfolding Turned
-    turn-none e = (refl, refl, refl, subst (λ o. Halts o (length out - written)) (sym (first-is Piece.None e)) (unfold request_in Halts in tt))
-
-    pub turn-full : (c : Change) → r.piece ≡ Piece.Change c → length out - written < 4 → Turned s w b at out written s w out Turn.Stop
+    pub turn-full : (c : Change) → r.piece ≡ Piece.Change c → length out - written < 4 → Turned s w b at out written s w out None
     unfolding Turned
     turn-full c e h =
         let z = most-change b c in
         (refl, refl, refl, subst (λ o. Halts o (length out - written)) (sym (first-is (Piece.Change c) e)) (unfold request_in Halts in omega arith))
 
-    pub turn-narrow : (q : Query) → r.piece ≡ Piece.Query q → (most : ℕ) → most ≡ query_most q → length out - written < most → Turned s w b at out written s w out Turn.Stop
+    pub turn-narrow : (q : Query) → r.piece ≡ Piece.Query q → (most : ℕ) → most ≡ query_most q → length out - written < most → Turned s w b at out written s w out None
     unfolding Turned
     turn-narrow q e most m h =
         let z = most-query b q in
         (refl, refl, refl, subst (λ o. Halts o (length out - written)) (sym (first-is (Piece.Query q) e)) (unfold request_in Halts in omega arith))
 
-    pub turn-change : (c : Change) → r.piece ≡ Piece.Change c → 4 ≤ length out - written → written ≤ length out → (o : Outcome) (s' w' out' : List ℕ) (end : ℕ)
+    pub turn-change : (c : Change) → r.piece ≡ Piece.Change c → 4 ≤ length out - written → written ≤ length out → (o : Result (Unit {0}) Refusal) (s' w' out' : List ℕ) (end : ℕ)
         → Served s w (change_in b c) o s' w'
         → (out' ≡ put out written (answer_bytes (outcome_answer o))) × (end ≡ written + length (answer_bytes (outcome_answer o)))
-        → Turned s w b at out written s' w' out' (Turn.Goes r.end end)
+        → Turned s w b at out written s' w' out' (Some (record { end = r.end; behind = end }))
     unfolding Turned
     turn-change c e h k o s' w' out' end m x =
-        let y = behind-is (Piece.Change c) (change_in b c) e (unfold request_in in refl) in
         let four : length (answer_bytes (outcome_answer o)) ≡ 4 = unfold answer_bytes outcome_answer in refl in
         record {
           request = change_in b c;
           given = outcome_answer o;
           area = w;
           first = first-is (Piece.Change c) e ∙ unfold request_in in refl;
-          later = y.0;
-          moves = y.1;
+          later = reads.later;
+          moves = reads.moves;
           high = reads.high;
           met = m.met;
           kept = m.area;
@@ -228,17 +226,16 @@ module _ (b : List ℕ) (at : ℕ) (r : Reading) (reads : Reads b at r) where
 
     pub turn-query : (q : Query) → r.piece ≡ Piece.Query q → (most : ℕ) → most ≡ query_most q → most ≤ length out - written → (out' : List ℕ) (end : ℕ)
         → Written s (query_in b q) out written out' end
-        → Turned s w b at out written s w out' (Turn.Goes r.end end)
+        → Turned s w b at out written s w out' (Some (record { end = r.end; behind = end }))
     unfolding Turned
     turn-query q e most l h out' end m =
-        let y = behind-is (Piece.Query q) (query_in b q) e (unfold request_in in refl) in
         record {
           request = query_in b q;
           given = m.given;
           area = [];
           first = first-is (Piece.Query q) e ∙ unfold request_in in refl;
-          later = y.0;
-          moves = y.1;
+          later = reads.later;
+          moves = reads.moves;
           high = reads.high;
           met = m.met w;
           kept = refl;

@@ -1,5 +1,6 @@
 -- Turn after turn: the loop of a batch, and the contract of the whole. Relies on Requests and on what a call keeps (demands' Consequences).
-use Rattle.std.specs.Prelude.{ℕ, suc, ◌+◌, ◌*◌, ◌-◌, ◌/◌, ◌<◌, ◌≤◌, ◌≡◌, refl, List, [], ◌∷◌, ◌++◌, length, take, drop}
+use Rattle.std.specs.Prelude.{ℕ, suc, ◌+◌, ◌*◌, ◌-◌, ◌/◌, ◌<◌, ◌≤◌, ◌≡◌, refl, List, [], ◌∷◌, ◌++◌, length, take, drop, Some, None, Result, Ok, Err}
+use Rattle.std.specs.Prelude as std
 use Rattle.image.specs.Prelude.{sym, ap, ap₂, subst, ◌∙◌, append_assoc, Option, none, some, arith, length-append, take_at, drop_at}
 use Rattle.image.specs.Image.{nodes_of, whole_nodes}
 use Rattle.image.specs.Sound.{sound}
@@ -8,14 +9,13 @@ use Rattle.image.specs.Contract.{node_questions, first_no_on, Meets, Run, stop}
 use Rattle.image.specs.Answers.{refusal_number}
 use Rattle.image.specs.Batch.{Request, first_request, requests_of, call_of, calls_of, answer_bytes, answers_bytes, most_bytes, Stopped, HadRoom, batch_no, zeroed, BatchRuns, BatchMeets}
 use Rattle.image.specs.declared.Refusal.{Refusal}
+use Rattle.node.specs.Whole.{whole_parts}
 use Rattle.octets.specs.Put.{put, put-put, put-size, put-nil}
 use Rattle.demands.specs.Consequences.{stays-sound}
-use Rattle.laws.specs.Page.{zeros_of}
 use Rattle.laws.specs.Refusals.{refusal-some}
 use Rattle.rebuild.specs.Rebuild.{cleared}
 use Rattle.questions.specs.Callers.{to_act, plain-settle, plain-number}
 use Rattle.finish.specs.Finished.{cleared-size, cleared-later, cleared-again}
-use Rattle.questions.specs.declared.Admission.{Admission}
 use Rattle.questions.specs.Asked.{Fit, Asked, asked-fit, asked-refused}
 use Rattle.tree_check.specs.declared.Tally.{Tally}
 use Rattle.batch.specs.declared.Turn.{Turn}
@@ -56,13 +56,13 @@ module _ (s₀ w₀ calls out₀ s w out : List ℕ) (at done written : ℕ) (f 
     omega (arith, f.fits, out-size),
   )
 
-  module _ (s' w' out' : List ℕ) (turn : Turn) (t : Turned s w calls at out written s' w' out' turn) where
-    pub went : (end behind' : ℕ) → turn ≡ Turn.Goes end behind' → Goes s w calls at out written s' w' out' end behind'
-    went end behind' e = unfold Turned in subst (Turned s w calls at out written s' w' out') e t
+  module _ (s' w' out' : List ℕ) (turn : std.Option Turn) (t : Turned s w calls at out written s' w' out' turn) where
+    pub went : (x : Turn) → turn ≡ Some x → Goes s w calls at out written s' w' out' x.end x.behind
+    went x e = unfold Turned in subst (Turned s w calls at out written s' w' out') e t
 
     -- a turn more
-    pub goes-on : (end behind' : ℕ) → turn ≡ Turn.Goes end behind' → SoFar s₀ w₀ calls out₀ s' w' out' end (done + 1) behind'
-    goes-on end behind' e =
+    pub goes-on : (x : Turn) → turn ≡ Some x → SoFar s₀ w₀ calls out₀ s' w' out' x.end (done + 1) x.behind
+    goes-on x e =
         record {
           before = f.before ++ (g.request ∷ []);
           given = f.given ++ (g.given ∷ []);
@@ -80,17 +80,17 @@ module _ (s₀ w₀ calls out₀ s w out : List ℕ) (at done written : ℕ) (f 
           few = (let a = f.few in let b = g.moves in omega arith);
         }
       where
-        g : Goes s w calls at out written s' w' out' end behind'
-        g = went end behind' e
+        g : Goes s w calls at out written s' w' out' x.end x.behind
+        g = went x e
 
         met : Meets s (call_of w₀ g.request) g.given s' g.area
-        met = subst (λ x. Meets s (call_of x g.request) g.given s' g.area) f.area g.met
+        met = subst (λ v. Meets s (call_of v g.request) g.given s' g.area) f.area g.met
 
-        split-more : requests_of calls ≡ (f.before ++ (g.request ∷ [])) ++ requests_of (drop end calls)
+        split-more : requests_of calls ≡ (f.before ++ (g.request ∷ [])) ++ requests_of (drop x.end calls)
         split-more =
             f.split
             ∙ ap (λ l. f.before ++ l) (requests-more (drop at calls) g.request g.first ∙ ap (λ l. g.request ∷ requests_of l) g.later)
-            ∙ sym (append_assoc f.before (g.request ∷ []) (requests_of (drop end calls)))
+            ∙ sym (append_assoc f.before (g.request ∷ []) (requests_of (drop x.end calls)))
 
         fresh-more : Fresh s' w₀
         fresh-more =
@@ -120,16 +120,16 @@ module _ (s₀ w₀ calls out₀ s w out : List ℕ) (at done written : ℕ) (f 
             ∙ put-put out₀ 0 (answers_bytes f.given) (answer_bytes g.given) (omega (arith, whole_length))
             ∙ ap (put out₀ 0) (sym (bytes-more f.given g.given))
 
-        length_more : behind' ≡ length (answers_bytes (f.given ++ (g.given ∷ [])))
+        length_more : x.behind ≡ length (answers_bytes (f.given ++ (g.given ∷ [])))
         length_more =
             g.ends ∙ ap (λ k. k + length (answer_bytes g.given)) f.length_is
             ∙ sym (length-append (answers_bytes f.given) (answer_bytes g.given)) ∙ ap length (sym (bytes-more f.given g.given))
 
-    pub moved : (end behind' : ℕ) → turn ≡ Turn.Goes end behind' → (at < end) × (end ≤ length calls) × (done ≤ at)
-    moved end behind' e = let g = went end behind' e in (g.moves, g.high, f.few)
+    pub moved : (x : Turn) → turn ≡ Some x → (at < x.end) × (x.end ≤ length calls) × (done ≤ at)
+    moved x e = let g = went x e in (g.moves, g.high, f.few)
 
     -- the end
-    pub ends : turn ≡ Turn.Stop → Batching s₀ w₀ calls out₀ (record { number = 0; done = done; written = written }) s' w' out'
+    pub ends : turn ≡ None → Batching s₀ w₀ calls out₀ (record { number = 0; done = done; written = written }) s' w' out'
     ends e =
         unfold Batching in (
           refl,
@@ -178,26 +178,28 @@ number_is : (s w : List ℕ) → first_no_on s (acts settle w) ≡ batch_no s w
 unfolding first_no_on batch_no node_questions questions act_questions work_long
 number_is s w = refl
 
-module _ (s w calls out seen : List ℕ) (r : Admission) (a : Asked s w seen r) where
-  pub refused : (q : Refusal) → r ≡ Admission.Refused q → (k : ℕ) → k ≡ refusal_number q → BatchMeets s w calls out k 0 0 s w out
+module _ (s w calls out seen : List ℕ) (r : Result Tally Refusal) (a : Asked s w seen r) where
+  pub refused : (q : Refusal) → r ≡ Err q → (k : ℕ) → k ≡ refusal_number q → BatchMeets s w calls out k 0 0 s w out
   refused q e k z =
-      let n : batch_no s w ≡ refusal_number q = sym (number_is s w) ∙ asked-refused s w seen r a q e (acts settle w) to_act in
+      let n : batch_no s w ≡ refusal_number q = sym (number_is s w) ∙ asked-refused s w seen q (subst (Asked s w seen) e a) (acts settle w) to_act in
       record {
         answer = z ∙ sym n;
         refuses = λ j h. (refl, refl, refl, refl, refl);
         runs = λ h. absurd (omega (arith, refusal-some q, sym n ∙ h));
       }
 
-  module _ (t : Tally) (e : r ≡ Admission.Fit t) where
+  module _ (t : Tally) (e : r ≡ Ok t) where
     fit : Fit s w t seen
-    fit = asked-fit s w seen r a t e
+    fit = asked-fit s w seen t (subst (Asked s w seen) e a)
 
-    pub area-long : 128 * (length s / 1024) ≤ length w
-    area-long = unfold nodes_of in fit.long
+    pub area-long : (128 * (length s / 1024) ≤ length w) × (length s / 1024 ≤ 1024)
+    unfolding nodes_of
+    area-long = (fit.long, (whole_parts (length s) fit.whole).few)
 
-    module _ (len : ℕ) (w₁ : List ℕ) (l : len ≡ 128 * (length s / 1024)) (z : w₁ ≡ zeros_of len ++ drop len w) where
+    module _ (n : ℕ) (w₁ : List ℕ) (l : n ≡ length s / 1024) (z : w₁ ≡ cleared n w) where
       cleared-is : w₁ ≡ cleared (nodes_of (length s)) w
-      cleared-is = z ∙ ap (λ k. zeros_of k ++ drop k w) (let y : len ≡ work_per_node * nodes_of (length s) = unfold nodes_of in l in y) ∙ unfold zeros_of in refl
+      unfolding nodes_of
+      cleared-is = z ∙ ap (λ k. cleared k w) l
 
       again : zeroed (nodes_of (length s)) w₁ ≡ zeroed (nodes_of (length s)) w
       again = cleared-again (nodes_of (length s)) w w₁ (cleared-later (nodes_of (length s)) w w₁ cleared-is)

@@ -1,6 +1,6 @@
 // A batch: a list of calls as one call. Questions 1 and 2 are asked once; then call after call by the parts of the calls that follow these questions,
 // each on the store as the last one left it, with no second judgement: after each the store is sound again, which is proved. Relies on questions,
-// tree_check (the marks), requests (requests read, answers written), query, edit, maintain, rename, packed (the area zeroed) and node (places).
+// tree_check (the marks), requests (requests read, answers written), query, edit, maintain, rename and node (places).
 
 #![tactic(auto)]
 
@@ -14,9 +14,8 @@ ghost use Rattle.requests.specs.Pieces.{change_in, query_in, ChangeWithin, Query
 ghost use Rattle.batch.specs.Served.{Fresh, Served, Written, Turned, Batching};
 
 use edit::Terms;
-use image::Outcome;
+use image::Refusal;
 use node::Place;
-use questions::Admission;
 use requests::{Change, Piece, Query};
 use tree_check::marks;
 
@@ -28,11 +27,11 @@ pub struct Batched {
     pub written: usize,
 }
 
-// One turn of a batch: it stops, or goes on behind a piece and behind its answer.
+// Where a turn of a batch that goes on ends: behind its piece and behind its answer.
 #[derive(Clone, Copy)]
-pub enum Turn {
-    Stop,
-    Goes(usize, usize),
+pub struct Turn {
+    pub end: usize,
+    pub behind: usize,
 }
 
 // put, drop and clear are lent no marks: those of the judgement are stale after the first change, and edit makes its own where it needs some.
@@ -43,7 +42,7 @@ fn put_piece(
     path: Place,
     value: Place,
     waiting: usize,
-) -> Outcome
+) -> Result<(), Refusal>
     requires { Fresh store.old work.old × Within 0 (length calls.now) path × Within 0 (length calls.now) value }
     ensures { Served store.old work.old (acting (put (part calls.now path) (part calls.now value))) result store.new work.new }
 {
@@ -72,7 +71,7 @@ fn drop_piece(
     calls: &[u8],
     path: Place,
     waiting: usize,
-) -> Outcome
+) -> Result<(), Refusal>
     requires { Fresh store.old work.old × Within 0 (length calls.now) path }
     ensures { Served store.old work.old (acting (drops (part calls.now path))) result store.new work.new }
 {
@@ -92,7 +91,7 @@ fn clear_piece(
     calls: &[u8],
     path: Place,
     waiting: usize,
-) -> Outcome
+) -> Result<(), Refusal>
     requires { Fresh store.old work.old × Within 0 (length calls.now) path }
     ensures { Served store.old work.old (acting (clear (part calls.now path))) result store.new work.new }
 {
@@ -106,7 +105,13 @@ fn clear_piece(
     edit::clear_fit(store, work, &seen, &calls[start..stop], terms)
 }
 
-fn move_piece(store: &mut [u8], work: &mut [u8], calls: &[u8], from: Place, to: Place) -> Outcome
+fn move_piece(
+    store: &mut [u8],
+    work: &mut [u8],
+    calls: &[u8],
+    from: Place,
+    to: Place,
+) -> Result<(), Refusal>
     requires { Fresh store.old work.old × Within 0 (length calls.now) from × Within 0 (length calls.now) to }
     ensures { Served store.old work.old (acting (move (part calls.now from) (part calls.now to))) result store.new work.new }
 {
@@ -126,7 +131,7 @@ fn move_piece(store: &mut [u8], work: &mut [u8], calls: &[u8], from: Place, to: 
     )
 }
 
-fn settle_piece(store: &mut [u8], work: &mut [u8]) -> Outcome
+fn settle_piece(store: &mut [u8], work: &mut [u8]) -> Result<(), Refusal>
     requires { Fresh store.old work.old }
     ensures { Served store.old work.old (acting settle) result store.new work.new }
 {
@@ -135,14 +140,14 @@ fn settle_piece(store: &mut [u8], work: &mut [u8]) -> Outcome
     maintain::settle_fit(store, work, quiet)
 }
 
-fn tidy_piece(store: &mut [u8], work: &mut [u8]) -> Outcome
+fn tidy_piece(store: &mut [u8], work: &mut [u8]) -> Result<(), Refusal>
     requires { Fresh store.old work.old }
     ensures { Served store.old work.old (acting tidy) result store.new work.new }
 {
     maintain::tidy_fit(store, work)
 }
 
-fn flush_piece(store: &mut [u8], work: &mut [u8], node: usize) -> Outcome
+fn flush_piece(store: &mut [u8], work: &mut [u8], node: usize) -> Result<(), Refusal>
     requires { Fresh store.old work.old }
     ensures { Served store.old work.old (keeping flush node) result store.new work.new }
 {
@@ -151,7 +156,7 @@ fn flush_piece(store: &mut [u8], work: &mut [u8], node: usize) -> Outcome
     maintain::flush_fit(store, work, &seen, node)
 }
 
-fn heal_piece(store: &mut [u8], work: &mut [u8], node: usize) -> Outcome
+fn heal_piece(store: &mut [u8], work: &mut [u8], node: usize) -> Result<(), Refusal>
     requires { Fresh store.old work.old }
     ensures { Served store.old work.old (keeping heal node) result store.new work.new }
 {
@@ -167,7 +172,7 @@ fn make_change(
     calls: &[u8],
     change: Change,
     waiting: usize,
-) -> Outcome
+) -> Result<(), Refusal>
     requires { Fresh store.old work.old × ChangeWithin (length calls.now) change }
     ensures { Served store.old work.old (change_in calls.now change) result store.new work.new }
 {
@@ -214,16 +219,7 @@ fn answer_query(store: &[u8], calls: &[u8], query: Query, answers: &mut [u8], at
 
 // Whether a change fills or empties the root itself, so that more may wait there before it. A flush or a heal may do neither.
 fn changes_root(change: Change) -> bool {
-    match change {
-        Change::Put(_, _) => true,
-        Change::Drop(_) => true,
-        Change::Clear(_) => true,
-        Change::Move(_, _) => true,
-        Change::Settle => true,
-        Change::Tidy => true,
-        Change::Flush(_) => false,
-        Change::Heal(_) => false,
-    }
+    !matches!(change, Change::Flush(_) | Change::Heal(_))
 }
 
 // Whether such a change follows from a place on, in front of the first piece that does not read.
@@ -231,25 +227,15 @@ fn changes_later(calls: &[u8], at: usize) -> bool
     requires { at ≤ length calls.now }
 {
     let mut next = at;
-    loop {
-        let reading = requests::read_piece(calls, next);
-        let piece = reading.piece;
-        let end = reading.end;
-        match piece {
-            Piece::None => {
-                return false;
-            }
-            Piece::Change(change) => {
-                if changes_root(change) {
-                    return true;
-                }
-                next = end;
-            }
-            Piece::Query(_) => {
-                next = end;
+    while let Some(reading) = requests::read_piece(calls, next) {
+        if let Piece::Change(change) = reading.piece {
+            if changes_root(change) {
+                return true;
             }
         }
+        next = reading.end;
     }
+    false
 }
 
 // How many messages may wait in the root after a change whose piece ends at a place: after the last one of a list as many as after a single call,
@@ -268,7 +254,7 @@ fn waiting_of(change: Change, calls: &[u8], end: usize, nodes: usize) -> usize
     edit::WAITING
 }
 
-// The piece at a place carried out, and its answer written at another, where it is certain to fit.
+// The piece at a place carried out, and its answer written at another, where it is certain to fit; else the batch stops.
 fn take_turn(
     store: &mut [u8],
     work: &mut [u8],
@@ -276,30 +262,28 @@ fn take_turn(
     at: usize,
     answers: &mut [u8],
     written: usize,
-) -> Turn
+) -> Option<Turn>
     requires { Fresh store.old work.old × (at ≤ length calls.now) × (written ≤ length answers.old) }
     ensures { Turned store.old work.old calls.now at answers.old written store.new work.new answers.new result }
 {
-    let reading = requests::read_piece(calls, at);
-    let piece = reading.piece;
+    let reading = requests::read_piece(calls, at)?;
     let end = reading.end;
-    match piece {
-        Piece::None => Turn::Stop,
+    match reading.piece {
         Piece::Change(change) => {
             if answers.len() - written < requests::ANSWER_HEAD {
-                return Turn::Stop;
+                return None;
             }
             let waiting = waiting_of(change, calls, end, store.len() / image::NODE_SIZE);
             let outcome = make_change(store, work, calls, change, waiting);
             let behind = requests::write_outcome(answers, written, outcome);
-            Turn::Goes(end, behind)
+            Some(Turn { end, behind })
         }
         Piece::Query(query) => {
             if answers.len() - written < requests::most_bytes(query) {
-                return Turn::Stop;
+                return None;
             }
             let behind = answer_query(store, calls, query, answers, written);
-            Turn::Goes(end, behind)
+            Some(Turn { end, behind })
         }
     }
 }
@@ -312,22 +296,15 @@ fn run(store: &mut [u8], work: &mut [u8], calls: &[u8], answers: &mut [u8]) -> B
     let mut at = 0;
     let mut done = 0;
     let mut written = 0;
-    loop {
-        let turn = take_turn(store, work, calls, at, answers, written);
-        match turn {
-            Turn::Stop => {
-                return Batched {
-                    number: 0,
-                    done,
-                    written,
-                };
-            }
-            Turn::Goes(end, behind) => {
-                at = end;
-                written = behind;
-                done = done + 1;
-            }
-        }
+    while let Some(turn) = take_turn(store, work, calls, at, answers, written) {
+        at = turn.end;
+        written = turn.behind;
+        done += 1;
+    }
+    Batched {
+        number: 0,
+        done,
+        written,
     }
 }
 
@@ -337,16 +314,14 @@ pub fn batch(store: &mut [u8], work: &mut [u8], calls: &[u8], answers: &mut [u8]
         store.new work.new answers.new }
 {
     let mut seen = [0u8; 1024];
-    let asked = questions::ask(store, work, &mut seen);
-    match asked {
-        Admission::Refused(refusal) => Batched {
-            number: requests::refusal_number(refusal),
+    match questions::ask(store, work, &mut seen) {
+        Err(refusal) => Batched {
+            number: u32::from(refusal),
             done: 0,
             written: 0,
         },
-        Admission::Fit(_) => {
-            let len = image::WORK_PER_NODE * (store.len() / image::NODE_SIZE);
-            packed::clear_area(work, len);
+        Ok(_) => {
+            questions::zero_area(work, store.len() / image::NODE_SIZE);
             run(store, work, calls, answers)
         }
     }

@@ -1,5 +1,6 @@
 -- What the act of a move asks, and one law for each way out of the call. Relies on Prepare/Moved (the contract from the steps).
-use Rattle.std.specs.Prelude.{ℕ, ◌*◌, ◌/◌, ◌≤◌, ◌≡◌, refl, List, ◌++◌, Bool, true, false, length, take, drop}
+use Rattle.std.specs.Prelude.{ℕ, ◌*◌, ◌-◌, ◌/◌, ◌≤◌, ◌≡◌, refl, List, ◌++◌, Bool, true, false, length, take, drop, Ok, Err, Result, IsErrAnd}
+use Rattle.std.proofs.lemmas.Result.{err_from_is_err_and}
 use Rattle.image.specs.Prelude.{sym, ap, subst, ◌∙◌}
 use Rattle.image.specs.Bytes.{same}
 use Rattle.image.specs.Image.{nodes_of, whole_nodes, header_of}
@@ -9,9 +10,8 @@ use Rattle.image.specs.Calls.{acts, move, work_per_node}
 use Rattle.image.specs.Contract.{Meets}
 use Rattle.image.specs.Answers.{outcome_answer}
 use Rattle.image.specs.declared.Refusal.{Refusal}
-use Rattle.image.specs.declared.Outcome.{Outcome}
 use Rattle.laws.specs.ButLive.{sound_but_live}
-use Rattle.laws.specs.Page.{zeros_of}
+use Rattle.node.specs.Whole.{whole_parts}
 use Rattle.packed.specs.Build.Handed.{handed}
 use Rattle.rebuild.specs.Rebuild.{cleared}
 use Rattle.tree_check.specs.Whole.{Marks}
@@ -49,42 +49,33 @@ module _ (s w from to seen : List ℕ) (quiet : Bool) (d : Differ s w from to se
           (subst (λ m. work_per_node * nodes_of (length s) ≤ m) (sym p.work_size) d.accepted.passed.long),
     )
 
-    pub applied : (s₃ w₂ : List ℕ) → Finished s₂ s₃ w₁ w₂ → Meets s (acts (move from to) w) (outcome_answer Outcome.Done) s₃ w₂
+    pub applied : (s₃ w₂ : List ℕ) → Finished s₂ s₃ w₁ w₂ → Meets s (acts (move from to) w) (outcome_answer (Ok tt)) s₃ w₂
     applied s₃ w₂ z =
         moved-meets s s₁ s₂ s₃ w w₁ w₂ numbers (take r numbers) from to r d.accepted.passed.whole d.accepted.number d.differ p swing-asked e z
 
 -- THE WAYS OUT OF THE CALL, by the answer of the questions
-kept-asked : (s w from to : List ℕ) → AskedMove s w from to Going.Stays → Accepted s w from to × (from ≡ to)
-unfolding AskedMove
-kept-asked s w from to a = a
+module _ (s w from to : List ℕ) where
+  -- the refusal is handed on
+  pub refused : (q : Refusal) → AskedMove s w from to (Err q) → (r : Result (Unit {0}) Refusal) → IsErrAnd r (λ y. y ≡ q) → Meets s (acts (move from to) w) (outcome_answer r) s w
+  unfolding AskedMove
+  refused q a r h = let p = err_from_is_err_and r h in rw (p.1, p.2) a
 
-refused-asked : (s w from to : List ℕ) (r : Refusal) → AskedMove s w from to (Going.Refused r) → Meets s (acts (move from to) w) (outcome_answer (Outcome.Refused r)) s w
-unfolding AskedMove
-refused-asked s w from to r a = a
+  module _ (g : Going) (a : AskedMove s w from to (Ok g)) where
+    module _ (e : g ≡ Going.Stays) where
+      kept : Accepted s w from to × (from ≡ to)
+      unfolding AskedMove
+      kept = subst (λ x. AskedMove s w from to (Ok x)) e a
 
-goes-asked : (s w from to : List ℕ) → AskedMove s w from to Going.Goes → Accepted s w from to × (same from to ≡ false)
-unfolding AskedMove
-goes-asked s w from to a = a
+      pub area-long : (128 * (length s / 1024) ≤ length w) × (length s / 1024 ≤ 1024)
+      unfolding nodes_of
+      area-long = (kept.0.passed.long, (whole_parts (length s) kept.0.passed.whole).few)
 
-module _ (s w from to : List ℕ) (g : Going) (a : AskedMove s w from to g) where
-  pub refused : (r : Refusal) → g ≡ Going.Refused r → Meets s (acts (move from to) w) (outcome_answer (Outcome.Refused r)) s w
-  refused r e = refused-asked s w from to r (subst (AskedMove s w from to) e a)
+      pub stays : (w' : List ℕ) (n : ℕ) → n ≡ length s / 1024 → w' ≡ cleared n w → Meets s (acts (move from to) w) (outcome_answer (Ok tt)) s w'
+      unfolding nodes_of
+      stays w' n z q = stays-meets s w w' from to kept.0.passed.is_sound kept.0.number kept.1 (q ∙ ap (λ k. cleared k w) z)
 
-  module _ (e : g ≡ Going.Stays) where
-    kept : Accepted s w from to × (from ≡ to)
-    kept = kept-asked s w from to (subst (AskedMove s w from to) e a)
-
-    pub area-long : 128 * (length s / 1024) ≤ length w
-    area-long = unfold nodes_of in kept.0.passed.long
-
-    pub stays : (w' : List ℕ) (len : ℕ) → len ≡ 128 * (length s / 1024) → w' ≡ zeros_of len ++ drop len w
-        → Meets s (acts (move from to) w) (outcome_answer Outcome.Done) s w'
-    stays w' len z q = stays-meets s w w' from to kept.0.passed.is_sound kept.0.number kept.1 (q ∙ ap (λ k. zeros_of k ++ drop k w) z ∙ shown)
-      where
-        shown : zeros_of (128 * (length s / 1024)) ++ drop (128 * (length s / 1024)) w ≡ cleared (nodes_of (length s)) w
-        shown = unfold zeros_of nodes_of in refl
-
-  pub goes : g ≡ Going.Goes → (seen : List ℕ) (quiet : Bool) → Marks s seen → quiet ≡ settled s → Differ s w from to seen quiet
-  goes e seen quiet m q =
-      let x = goes-asked s w from to (subst (AskedMove s w from to) e a) in
-      record { accepted = x.0; differ = x.1; marks = m; quiet_is = q }
+    pub goes : g ≡ Going.Goes → (seen : List ℕ) (quiet : Bool) → Marks s seen → quiet ≡ settled s → Differ s w from to seen quiet
+    unfolding AskedMove
+    goes e seen quiet m q =
+        let x : Accepted s w from to × (same from to ≡ false) = subst (λ x. AskedMove s w from to (Ok x)) e a in
+        record { accepted = x.0; differ = x.1; marks = m; quiet_is = q }

@@ -6,36 +6,36 @@ ghost use Rattle.rename.specs.Going.Going.{going_of};
 
 use image::Refusal;
 
-// A move is refused, or leaves every byte of the store (from equals to), or goes.
+// A move that no question refuses leaves every byte of the store (from equals to), or goes.
 #[derive(Clone, Copy)]
 pub enum Going {
-    Refused(Refusal),
     Stays,
     Goes,
 }
 
 // The questions from 3 on, of a sound store.
-pub fn ask_later(store: &[u8], from: &[u8], to: &[u8]) -> Going
+#[tactic(auto, unfolding(crate::specs::Going::Going::going_of))]
+pub fn ask_later(store: &[u8], from: &[u8], to: &[u8]) -> Result<Going, Refusal>
     requires { sound store.now ≡ true }
     ensures { result ≡ going_of from.now to.now (table_of store.now) }
 {
     if !path::is_path(from) {
-        return Going::Refused(Refusal::Malformed);
+        return Err(Refusal::Malformed);
     }
     if !path::is_path(to) {
-        return Going::Refused(Refusal::Malformed);
+        return Err(Refusal::Malformed);
     }
     if !crate::asks::may_move(from, to) {
-        return Going::Refused(Refusal::Nested);
+        return Err(Refusal::Nested);
     }
     if !crate::asks::any_below(store, from) {
-        return Going::Refused(Refusal::Absent);
+        return Err(Refusal::Absent);
     }
     if !crate::asks::stays_formed(store, from, to) {
-        return Going::Refused(Refusal::BecomesMalformed);
+        return Err(Refusal::BecomesMalformed);
     }
     if octets::equal(from, to) {
-        return Going::Stays;
+        return Ok(Going::Stays);
     }
-    Going::Goes
+    Ok(Going::Goes)
 }

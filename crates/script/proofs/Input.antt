@@ -1,18 +1,11 @@
 -- The input byte by byte: what each byte prints and leaves, and the theorem that a whole input prints what the definition of the program says
 -- and leaves the store that it says. Relies on: Answered (what a line says).
 -- The laws of specs/Input that rest on a definition which a must-fail edit changes.
-use Rattle.std.specs.Prelude.{ℕ, zero, suc, ◌+◌, ◌-◌, ◌<◌, ◌≤◌, ◌≡◌, refl, List, [], ◌∷◌, ◌++◌, Bool, true, false, cond, ◌⊎◌, length, take, drop, set, ltb, eqb}
-use Rattle.image.specs.Prelude.{sym, ap, ap₂, ◌∙◌, append-nil, inl, inr, arith, length-append, take_all, take-append-le, take_at, length-take-le, eq-eqb, ne_eqb, ltb-true, ltb-false}
-use Rattle.image.specs.Table.{Row}
-use Rattle.image.specs.Image.{whole_nodes, nodes_of}
-use Rattle.image.specs.Sound.{sound, table_of}
-use Rattle.image.specs.Calls.{first_no}
-use Rattle.image.specs.Contract.{Made, MakeMeets, make_no}
-use Rattle.image.specs.Program.{line_feed, last_line, lines_from, lines_of, command_of, command_text, command_table, said, after_line, said_on, after_lines, program_nodes, printed_from, table_from, printed_for}
-use Rattle.script.specs.Writing.{set_next}
-use Rattle.script.specs.Answered.{Held, Says}
-use Rattle.script.specs.Line.{line-long}
-use Rattle.octets.specs.Put.{front-is}
+use Rattle.std.specs.Prelude.{ℕ, ◌≡◌, refl, List, [], take}
+use Rattle.image.specs.Prelude.{ap, ◌∙◌}
+use Rattle.image.specs.Sound.{table_of}
+use Rattle.image.specs.Contract.{Made}
+use Rattle.image.specs.Program.{lines_from, lines_of, printed_from, table_from, printed_for}
 use Rattle.script.specs.Input.{Ended, Printed, Prints, byte-before, ends, last_table, last_text, more, same-last, same_left}
 
 -- a run in which the line has begun with the bytes q, of which 256 are kept

@@ -1,6 +1,6 @@
 -- What a call's contract says of the text of a line: the store's answers are the plain map's, where the store is sound and of 64 nodes.
 -- Relies on: the contract Meets, and the list of a query's questions (query).
-use Rattle.std.specs.Prelude.{ℕ, zero, suc, ◌+◌, ◌*◌, ◌≤◌, ◌≡◌, refl, List, [], ◌∷◌, ◌++◌, true, ◌&&◌, length, take, drop, leb}
+use Rattle.std.specs.Prelude.{ℕ, zero, suc, ◌+◌, ◌*◌, ◌≤◌, ◌≡◌, refl, List, [], ◌∷◌, ◌++◌, true, ◌&&◌, length, take, drop, leb, Result, Ok, Err}
 use Rattle.image.specs.Prelude.{sym, ap, subst, ◌∙◌, Option, none, some, arith, length-replicate, take_at, le-leb}
 use Rattle.image.specs.Path.{value_limit, path_limit}
 use Rattle.image.specs.Table.{Row, find, is_some}
@@ -11,8 +11,6 @@ use Rattle.image.specs.PlainMap.{plain_first_no}
 use Rattle.image.specs.Contract.{node_questions, first_no_on, Meets}
 use Rattle.image.specs.Answers.{refusal_number, outcome_number, outcome_answer, found_answer}
 use Rattle.image.specs.declared.Refusal.{Refusal}
-use Rattle.image.specs.declared.Outcome.{Outcome}
-use Rattle.image.specs.declared.Found.{Found}
 use Rattle.laws.specs.ValuesFit.{table_fits, found-fits}
 use Rattle.laws.specs.Refusals.{refusal-some}
 use Rattle.query.specs.Asked.{paths_fit, buffer_limit, number_is, found_length}
@@ -80,19 +78,19 @@ refused-at Refusal.Absent text = refl
 refused-at Refusal.BecomesMalformed text = refl
 refused-at Refusal.Full text = refl
 
-pub done-text : (o : Outcome) → o ≡ Outcome.Done → ok_text ≡ answer_text (outcome_answer o)
+pub done-text : (o : Result (Unit {0}) Refusal) → o ≡ Ok tt → ok_text ≡ answer_text (outcome_answer o)
 unfolding answer_text outcome_answer outcome_number text_at
 done-text o e = rw e
 
-pub refusal-text : (o : Outcome) (r : Refusal) (k : ℕ) → o ≡ Outcome.Refused r → k ≡ refusal_number r → refused_text k ≡ answer_text (outcome_answer o)
+pub refusal-text : (o : Result (Unit {0}) Refusal) (r : Refusal) (k : ℕ) → o ≡ Err r → k ≡ refusal_number r → refused_text k ≡ answer_text (outcome_answer o)
 unfolding answer_text outcome_answer outcome_number
 refusal-text o r k e f = rw (e, f) (sym (refused-at r ok_text))
 
-pub value-text : (f : Found) (n : ℕ) (buffer : List ℕ) → f ≡ Found.Length n → value_text (take n buffer) ++ (line_feed ∷ []) ≡ answer_text (found_answer f buffer)
+pub value-text : (f : Result ℕ Refusal) (n : ℕ) (buffer : List ℕ) → f ≡ Ok n → value_text (take n buffer) ++ (line_feed ∷ []) ≡ answer_text (found_answer f buffer)
 unfolding answer_text found_answer text_at
 value-text f n buffer e = rw e
 
-pub absent-text : (f : Found) (r : Refusal) (k : ℕ) (buffer : List ℕ) → f ≡ Found.Refused r → k ≡ refusal_number r → refused_text k ≡ answer_text (found_answer f buffer)
+pub absent-text : (f : Result ℕ Refusal) (r : Refusal) (k : ℕ) (buffer : List ℕ) → f ≡ Err r → k ≡ refusal_number r → refused_text k ≡ answer_text (found_answer f buffer)
 unfolding answer_text found_answer
 absent-text f r k buffer e g = rw (e, g) (sym (refused-at r (value_text (take 0 buffer) ++ (line_feed ∷ []))))
 
@@ -141,7 +139,7 @@ module _ (s out : List ℕ) (h : Held s out) where
       by_number (suc k) e = rw (m.stays k e) h.is_sound
 
   -- put, drop, clear, move, settle, tidy
-  pub act-answered : (a : Act) (work : List ℕ) (o : Outcome) (s' w' out₁ : List ℕ) (r : ℕ) (out' : List ℕ) → 8192 ≤ length work
+  pub act-answered : (a : Act) (work : List ℕ) (o : Result (Unit {0}) Refusal) (s' w' out₁ : List ℕ) (r : ℕ) (out' : List ℕ) → 8192 ≤ length work
       → Meets s (acts a work) (outcome_answer o) s' w' → Wrote out₁ 0 (answer_text (outcome_answer o)) r out' → Answered s (acting a) r out' s'
   unfolding command_text command_table call_text
   act-answered a work o s' w' out₁ r out' l m w =
@@ -166,7 +164,7 @@ module _ (s out : List ℕ) (h : Held s out) where
       let w : whole_nodes (length s) ≡ true = whole-64 (length s) h.nodes in
       rw (w, h.is_sound) (skip-two _)
 
-  pub get-answered : (p : List ℕ) (f : Found) (buffer' out₁ : List ℕ) (r : ℕ) (out' : List ℕ)
+  pub get-answered : (p : List ℕ) (f : Result ℕ Refusal) (buffer' out₁ : List ℕ) (r : ℕ) (out' : List ℕ)
       → Meets s (asks (get p) value_buffer) (found_answer f buffer') s [] → Wrote out₁ 0 (answer_text (found_answer f buffer')) r out' → Answered s (getting p) r out' s
   unfolding command_text command_table call_text
   get-answered p f buffer' out₁ r out' m w =
@@ -191,7 +189,7 @@ module _ (s out : List ℕ) (h : Held s out) where
       let w : whole_nodes (length s) ≡ true = whole-64 (length s) h.nodes in
       number_is s q buffer ∙ rw (w, h.is_sound, e, le-leb (buffer_limit q) (length buffer) l) refl
 
-  module _ (q : Query) (buffer : List ℕ) (formed : paths_fit q ≡ true) (room : buffer_limit q ≤ length buffer) (f : Found) (buffer' : List ℕ)
+  module _ (q : Query) (buffer : List ℕ) (formed : paths_fit q ≡ true) (room : buffer_limit q ≤ length buffer) (f : Result ℕ Refusal) (buffer' : List ℕ)
       (m : Meets s (asks q buffer) (found_answer f buffer') s []) where
     -- nothing is there: the answer is the refusal 8
     answer-none : found_by q (table_of s) ≡ none → found_answer f buffer' ≡ filled 8 0 buffer
@@ -207,7 +205,7 @@ module _ (s out : List ℕ) (h : Held s out) where
         m.answer ∙ ap (λ k. answer_at k (asks q buffer) (table_of s)) no ∙ ap (fill buffer) e
 
     -- the answer is a length: the bytes are what was looked for
-    pub took : (n : ℕ) → f ≡ Found.Length n → (found_by q (table_of s) ≡ some (take n buffer')) × (length (take n buffer') ≡ n)
+    pub took : (n : ℕ) → f ≡ Ok n → (found_by q (table_of s) ≡ some (take n buffer')) × (length (take n buffer') ≡ n)
     unfolding found_answer
     took n e = go (found_by q (table_of s)) refl
       where
@@ -226,7 +224,7 @@ module _ (s out : List ℕ) (h : Held s out) where
             (g ∙ ap some (sym front), ap length front ∙ sym size)
 
     -- the answer is a refusal: there is nothing
-    pub left : (r : Refusal) → f ≡ Found.Refused r → found_by q (table_of s) ≡ none
+    pub left : (r : Refusal) → f ≡ Err r → found_by q (table_of s) ≡ none
     unfolding found_answer
     left r e = go (found_by q (table_of s)) refl
       where
@@ -237,10 +235,10 @@ module _ (s out : List ℕ) (h : Held s out) where
             let o : refusal_number r ≡ 0 = cc in absurd (omega (arith, refusal-some r))
 
   -- a value that get gives fits
-  pub get-short : (p buffer : List ℕ) (f : Found) (buffer' : List ℕ) → Meets s (asks (get p) buffer) (found_answer f buffer') s [] → found_length f ≤ value_limit
+  pub get-short : (p buffer : List ℕ) (f : Result ℕ Refusal) (buffer' : List ℕ) → Meets s (asks (get p) buffer) (found_answer f buffer') s [] → found_length f ≤ value_limit
   unfolding found_length
-  get-short p buffer (Found.Refused r) buffer' m = omega arith
-  get-short p buffer (Found.Length n) buffer' m = by_number (first_no_on s (asks (get p) buffer)) m.answer
+  get-short p buffer (Err r) buffer' m = omega arith
+  get-short p buffer (Ok n) buffer' m = by_number (first_no_on s (asks (get p) buffer)) m.answer
     where
       by-found : (o : Option (List ℕ)) → find p (table_of s) ≡ o → filled 0 n buffer' ≡ fill buffer o → n ≤ value_limit
       by-found none g z = let e : n ≡ 0 = unfold fill in cc in omega arith
@@ -249,7 +247,7 @@ module _ (s out : List ℕ) (h : Held s out) where
           let l : length v ≤ value_limit = found-fits p v (table_of s) (table_fits s h.is_sound) g in
           omega arith
 
-      by_number : (k : ℕ) → found_answer (Found.Length n) buffer' ≡ answer_at k (asks (get p) buffer) (table_of s) → n ≤ value_limit
+      by_number : (k : ℕ) → found_answer (Ok n) buffer' ≡ answer_at k (asks (get p) buffer) (table_of s) → n ≤ value_limit
       by_number zero z = by-found (find p (table_of s)) refl (unfold found_answer answer_at accepted found_by in z)
       by_number (suc k) z =
           let y : filled 0 n buffer' ≡ filled (suc k) 0 buffer = unfold found_answer answer_at refused in z in

@@ -6,8 +6,8 @@ use Rattle.image.specs.Table.{Row}
 use Rattle.image.specs.Image.{whole_nodes, nodes_of}
 use Rattle.image.specs.Sound.{sound, table_of}
 use Rattle.image.specs.Calls.{first_no}
-use Rattle.image.specs.Contract.{Made, MakeMeets, make_no}
-use Rattle.image.specs.Program.{line_feed, last_line, lines_from, lines_of, command_of, command_text, command_table, said, after_line, said_on, after_lines, program_nodes, printed_from, table_from, printed_for}
+use Rattle.image.specs.Contract.{MakeMeets, make_no}
+use Rattle.image.specs.Program.{line_feed, last_line, lines_from, command_of, command_text, command_table, said, after_line, said_on, after_lines, program_nodes, printed_from, table_from}
 use Rattle.script.specs.Writing.{set_next}
 use Rattle.script.specs.Answered.{Held, Says}
 use Rattle.script.specs.Line.{line-long}

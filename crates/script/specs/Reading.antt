@@ -1,5 +1,6 @@
 -- Paths and values read from text: what each way out of the code leaves at the front of its buffer.
-use Rattle.std.specs.Prelude.{ℕ, suc, ◌+◌, ◌*◌, ◌-◌, ◌<◌, ◌≤◌, ◌≡◌, refl, List, [], ◌∷◌, ◌++◌, Bool, true, false, length, take, drop, get_or, set}
+use Rattle.std.specs.Prelude.{ℕ, suc, ◌+◌, ◌*◌, ◌-◌, ◌<◌, ◌≤◌, ◌≡◌, refl, List, [], ◌∷◌, ◌++◌, Bool, true, false, length, take, drop, get_or, set, Some, None}
+use Rattle.std.specs.Prelude as std
 use Rattle.image.specs.Prelude.{sym, ap, ◌∙◌, append_assoc, append-nil, Option, none, some, arith, drop_of_length-le, length-set, drop-cons, lt-ltb, le-ltb}
 use Rattle.image.specs.Path.{value_limit}
 use Rattle.image.specs.Bytes.{same}
@@ -7,7 +8,6 @@ use Rattle.image.specs.Sound.{is_in}
 use Rattle.image.specs.Program.{slash, exchanged, path_of, digit_of, behind, bytes_of, value_of, hyphen, hex_text, value_text}
 use Rattle.script.specs.Find.{up_to, in-found, in-none}
 use Rattle.script.specs.Writing.{Wrote, set_next, hex-length, exchanged-length}
-use Rattle.script.specs.declared.reading.Value.{Value}
 
 -- the first r bytes of a buffer
 pub record Front (bytes : List ℕ) (r : ℕ) (buffer : List ℕ) : Type 0 where
@@ -40,27 +40,27 @@ pub path-end : (text buffer : List ℕ) (end : ℕ) (buffer₁ : List ℕ) → W
 path-end text buffer end buffer₁ w = let n = exchanged-length slash 0 text in omega (arith, w.ends)
 
 -- A VALUE
-unfoldable pub value_read : Value → List ℕ → Option (List ℕ)
-value_read (Value.Length n) buffer = some (take n buffer)
-value_read Value.Wrong buffer = none
+unfoldable pub value_read : std.Option ℕ → List ℕ → Option (List ℕ)
+value_read (Some n) buffer = some (take n buffer)
+value_read None buffer = none
 
-unfoldable pub read_length : Value → ℕ
-read_length (Value.Length n) = n
-read_length Value.Wrong = 0
+unfoldable pub read_length : std.Option ℕ → ℕ
+read_length (Some n) = n
+read_length None = 0
 
-pub record Parsed (want : Option (List ℕ)) (r : Value) (buffer : List ℕ) : Type 0 where
+pub record Parsed (want : Option (List ℕ)) (r : std.Option ℕ) (buffer : List ℕ) : Type 0 where
   pub is : value_read r buffer ≡ want
   pub within : read_length r ≤ length buffer
 
-pub wrong-value : (want : Option (List ℕ)) (buffer : List ℕ) → none ≡ want → Parsed want Value.Wrong buffer
+pub wrong-value : (want : Option (List ℕ)) (buffer : List ℕ) → none ≡ want → Parsed want None buffer
 unfolding value_read read_length
 wrong-value want buffer e = record { is = e; within = omega arith }
 
-pub hyphen-value : (text buffer : List ℕ) (x : Bool) → x ≡ same text (hyphen ∷ []) → x ≡ true → Parsed (value_of text) (Value.Length 0) buffer
+pub hyphen-value : (text buffer : List ℕ) (x : Bool) → x ≡ same text (hyphen ∷ []) → x ≡ true → Parsed (value_of text) (Some 0) buffer
 unfolding value_read read_length value_of
 hyphen-value text buffer x e f = record { is = rw (sym e ∙ f) refl; within = omega arith }
 
-pub other-value : (text buffer : List ℕ) (x : Bool) (r : Value) → x ≡ same text (hyphen ∷ []) → x ≡ false → Parsed (bytes_of text) r buffer → Parsed (value_of text) r buffer
+pub other-value : (text buffer : List ℕ) (x : Bool) (r : std.Option ℕ) → x ≡ same text (hyphen ∷ []) → x ≡ false → Parsed (bytes_of text) r buffer → Parsed (value_of text) r buffer
 unfolding value_of
 other-value text buffer x r e f p = record { is = p.is ∙ rw (sym e ∙ f) refl; within = p.within }
 
@@ -126,7 +126,7 @@ module _ (hex value : List ℕ) (i n : ℕ) (seen : bytes_of hex ≡ behind_all 
           next : bytes_of (get_or hex i 0 ∷ get_or hex (i + 1) 0 ∷ drop (i + 2) hex) ≡ behind (16 * high + low) (bytes_of (drop (i + 2) hex))
           next = unfold bytes_of in rw (sym high_is, sym low_is, le-ltb 15 high high_fits, le-ltb 15 low l) refl
 
-  pub hex-read : length hex ≤ i → n ≤ length value → Parsed (bytes_of hex) (Value.Length n) value
+  pub hex-read : length hex ≤ i → n ≤ length value → Parsed (bytes_of hex) (Some n) value
   unfolding value_read read_length
   hex-read h k =
       let z : drop i hex ≡ [] = drop_of_length-le hex h in

@@ -1,6 +1,6 @@
 -- The rows below a path, one by one: next gives each path in turn, get its value, and the text of the rows follows.
 -- Relies on: Answered (what a query finds), laws/Follow (what follows a path in a rising table), laws/Formed (what follows the empty one).
-use Rattle.std.specs.Prelude.{ℕ, ◌+◌, ◌*◌, ◌-◌, ◌<◌, ◌≤◌, ◌≡◌, refl, List, [], ◌∷◌, ◌++◌, Bool, true, false, cond, length, take, drop}
+use Rattle.std.specs.Prelude.{ℕ, ◌+◌, ◌*◌, ◌-◌, ◌<◌, ◌≤◌, ◌≡◌, refl, List, [], ◌∷◌, ◌++◌, Bool, true, false, cond, length, take, drop, Result, Ok, Err}
 use Rattle.image.specs.Prelude.{sym, ap, ap₂, subst, ◌∙◌, append_assoc, false≢true, none, some, arith, length-append, length-take-le}
 use Rattle.image.specs.Bytes.{same, before, begins}
 use Rattle.image.specs.Path.{well_formed, path_or_empty, reads_on, value_limit}
@@ -11,7 +11,6 @@ use Rattle.image.specs.Calls.{asks, get, next, found_by}
 use Rattle.image.specs.Contract.{Meets}
 use Rattle.image.specs.Answers.{found_answer}
 use Rattle.image.specs.declared.Refusal.{Refusal}
-use Rattle.image.specs.declared.Found.{Found}
 use Rattle.octets.specs.Order.{and_left, and_right, same_refl, same-eq}
 use Rattle.laws.specs.Frame.{or_right}
 use Rattle.laws.specs.Tables.{find-yes, find-no}
@@ -171,9 +170,9 @@ none_ahead [] e = refl
 none_ahead (r ∷ rs) e = let o : ◌≡◌ {A = ℕ} 0 1 = cc in absurd (omega arith)
 
 module _ (s p q : List ℕ) (at : ℕ) (out buffer : List ℕ) (h : Held s out) (formed : path_or_empty p ≡ true) (w : Walk s p q at out) (long : 64 ≤ length buffer)
-    (f : Found) (buffer' : List ℕ) (m : Meets s (asks (next p q) buffer) (found_answer f buffer') s []) where
+    (f : Result ℕ Refusal) (buffer' : List ℕ) (m : Meets s (asks (next p q) buffer) (found_answer f buffer') s []) where
   -- next refused: no row is left
-  pub walk_ends : (r : Refusal) → f ≡ Found.Refused r → (end : ℕ) (out' : List ℕ) → Wrote out at end_text end out' → Wrote out 0 (rows_text (rows_below p (table_of s))) end out'
+  pub walk_ends : (r : Refusal) → f ≡ Err r → (end : ℕ) (out' : List ℕ) → Wrote out at end_text end out' → Wrote out 0 (rows_text (rows_below p (table_of s))) end out'
   unfolding found_by least_after rows_text
   walk_ends r e end out' x =
       let z : ahead p q (table_of s) ≡ []
@@ -184,7 +183,7 @@ module _ (s p q : List ℕ) (at : ℕ) (out buffer : List ℕ) (h : Held s out) 
       let c = length-take-le at out (omega (arith, w.room, h.page)) in
       record { bytes = x.bytes ∙ whole; ends = omega (arith, x.ends) }
 
-  module _ (n : ℕ) (e : f ≡ Found.Length n) where
+  module _ (n : ℕ) (e : f ≡ Ok n) where
     first : (least_after p q (table_of s) ≡ some (take n buffer')) × (length (take n buffer') ≡ n)
     unfolding found_by
     first = took s out h (next p q) buffer (next-asked p q formed w.place) (next-room p q buffer long) f buffer' m n e
@@ -254,13 +253,13 @@ module _ (s p q : List ℕ) (at : ℕ) (out buffer : List ℕ) (h : Held s out) 
     part-goes-on at' out' x = subst (λ k. Walk s p k at' out') part (walk-goes-on at' out' (subst (λ k. RowWrote s k out at at' out') (sym part) x))
 
 -- the value of a row that is present
-pub row-value : (s path out buffer : List ℕ) (f : Found) (buffer' : List ℕ) (n : ℕ) → Held s out → Present s path → value_limit ≤ length buffer
-    → Meets s (asks (get path) buffer) (found_answer f buffer') s [] → f ≡ Found.Length n → find path (table_of s) ≡ some (take n buffer')
+pub row-value : (s path out buffer : List ℕ) (f : Result ℕ Refusal) (buffer' : List ℕ) (n : ℕ) → Held s out → Present s path → value_limit ≤ length buffer
+    → Meets s (asks (get path) buffer) (found_answer f buffer') s [] → f ≡ Ok n → find path (table_of s) ≡ some (take n buffer')
 unfolding found_by
 row-value s path out buffer f buffer' n h x l m e = (took s out h (get path) buffer (get-asked path x.formed) (get-room path buffer l) f buffer' m n e).0
 
-pub row-refused : (s path out buffer : List ℕ) (f : Found) (buffer' : List ℕ) (r : Refusal) → Held s out → Present s path → value_limit ≤ length buffer
-    → Meets s (asks (get path) buffer) (found_answer f buffer') s [] → f ≡ Found.Refused r → ⊥
+pub row-refused : (s path out buffer : List ℕ) (f : Result ℕ Refusal) (buffer' : List ℕ) (r : Refusal) → Held s out → Present s path → value_limit ≤ length buffer
+    → Meets s (asks (get path) buffer) (found_answer f buffer') s [] → f ≡ Err r → ⊥
 unfolding found_by is_some
 row-refused s path out buffer f buffer' r h x l m e =
     let z : find path (table_of s) ≡ none = left s out h (get path) buffer (get-asked path x.formed) (get-room path buffer l) f buffer' m r e in

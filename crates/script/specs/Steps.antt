@@ -1,5 +1,6 @@
 -- The steps of the writers and of the answers: one law for each way out of the code.
-use Rattle.std.specs.Prelude.{ℕ, ◌+◌, ◌*◌, ◌-◌, ◌/◌, ◌%◌, ◌<◌, ◌≤◌, ◌≡◌, List, [], ◌∷◌, ◌++◌, Bool, true, false, not, length, take, drop}
+use Rattle.std.specs.Prelude.{ℕ, ◌+◌, ◌*◌, ◌-◌, ◌/◌, ◌%◌, ◌<◌, ◌≤◌, ◌≡◌, List, [], ◌∷◌, ◌++◌, Bool, true, false, not, length, take, drop, Result, Ok, Err, Some, None}
+use Rattle.std.specs.Prelude as std
 use Rattle.image.specs.Prelude.{sym, ap, ap₂, ◌∙◌, Option, none, some, arith, length-take, lt-ltb, le-ltb, eq-eqb, ne_eqb, not-true, not-false}
 use Rattle.image.specs.Bytes.{same}
 use Rattle.image.specs.Path.{path_or_empty, value_limit}
@@ -9,10 +10,7 @@ use Rattle.image.specs.Calls.{put, drops, clear, move, settle, tidy, acts, asks,
 use Rattle.image.specs.Contract.{Meets}
 use Rattle.image.specs.Answers.{refusal_number, outcome_answer, found_answer}
 use Rattle.image.specs.declared.Refusal.{Refusal}
-use Rattle.image.specs.declared.Outcome.{Outcome}
-use Rattle.image.specs.declared.Found.{Found}
 use Rattle.query.specs.Asked.{found_length}
-use Rattle.script.specs.declared.reading.Value.{Value}
 use Rattle.image.specs.Program.{acting, getting, listing, putting, path_of, value_of, word_alone, word_and_path, word_and_two, bad_text, ok_text, decimal, refused_text, answer_text, hex_text, value_text, value_buffer, exchanged, path_text, row_text, rows_text, put_word, drop_word, clear_word, get_word, list_word, move_word, settle_word, tidy_word}
 use Rattle.script.specs.Writing.{Wrote, wrote_on, wrote_as, exchanged-length}
 use Rattle.script.specs.Reading.{Front, Parsed, value_read, read_length, empty-text, some-text, text-short}
@@ -39,19 +37,19 @@ refused-wrote k out at out₁ end out₂ r out' a b c = wrote_on out 0 _ at out�
 
 -- ANSWERS
 module _ (out : List ℕ) (r : ℕ) (out' : List ℕ) where
-  pub done-wrote : (o : Outcome) → o ≡ Outcome.Done → Wrote out 0 (0x6F ∷ 0x6B ∷ 10 ∷ []) r out' → Wrote out 0 (answer_text (outcome_answer o)) r out'
+  pub done-wrote : (o : Result (Unit {0}) Refusal) → o ≡ Ok tt → Wrote out 0 (0x6F ∷ 0x6B ∷ 10 ∷ []) r out' → Wrote out 0 (answer_text (outcome_answer o)) r out'
   unfolding ok_text
   done-wrote o e w = wrote_as out 0 _ _ r out' (done-text o e) w
 
-  pub refusal-wrote : (o : Outcome) (x : Refusal) (k : ℕ) → o ≡ Outcome.Refused x → k ≡ refusal_number x → Wrote out 0 (refused_text k) r out'
+  pub refusal-wrote : (o : Result (Unit {0}) Refusal) (x : Refusal) (k : ℕ) → o ≡ Err x → k ≡ refusal_number x → Wrote out 0 (refused_text k) r out'
       → Wrote out 0 (answer_text (outcome_answer o)) r out'
   refusal-wrote o x k e f w = wrote_as out 0 _ _ r out' (refusal-text o x k e f) w
 
-  pub absent-wrote : (f : Found) (v : List ℕ) (x : Refusal) (k : ℕ) → f ≡ Found.Refused x → k ≡ refusal_number x → Wrote out 0 (refused_text k) r out'
+  pub absent-wrote : (f : Result ℕ Refusal) (v : List ℕ) (x : Refusal) (k : ℕ) → f ≡ Err x → k ≡ refusal_number x → Wrote out 0 (refused_text k) r out'
       → Wrote out 0 (answer_text (found_answer f v)) r out'
   absent-wrote f v x k e g w = wrote_as out 0 _ _ r out' (absent-text f x k v e g) w
 
-  pub value-wrote : (f : Found) (v : List ℕ) (n : ℕ) → f ≡ Found.Length n → (m : ℕ) (out₁ : List ℕ) → Wrote out 0 (value_text (take (n - 0) (drop 0 v))) m out₁
+  pub value-wrote : (f : Result ℕ Refusal) (v : List ℕ) (n : ℕ) → f ≡ Ok n → (m : ℕ) (out₁ : List ℕ) → Wrote out 0 (value_text (take (n - 0) (drop 0 v))) m out₁
       → Wrote out₁ m (10 ∷ []) r out' → Wrote out 0 (answer_text (found_answer f v)) r out'
   value-wrote f v n e m out₁ a b =
       let z : n ≡ n - 0 = omega arith in
@@ -64,7 +62,7 @@ module _ (out : List ℕ) (r : ℕ) (out' : List ℕ) where
   hex-wrote at v e w = wrote_as out at _ _ r out' (some-text v e) w
 
 -- what was found lies within its buffer
-pub found-length : (f : Found) (n m : ℕ) → f ≡ Found.Length n → found_length f ≤ m → n ≤ m
+pub found-length : (f : Result ℕ Refusal) (n m : ℕ) → f ≡ Ok n → found_length f ≤ m → n ≤ m
 unfolding found_length
 found-length f n m e h = rw e at h
 
@@ -87,14 +85,14 @@ module _ (s path out : List ℕ) (at : ℕ) (h : Held s out) (x : Present s path
     pub start-ends : start ≤ at + 64
     start-ends = omega (arith, v.ends, gap_ends)
 
-    module _ (f : Found) (buffer buffer' : List ℕ) (m : Meets s (asks (get path) buffer) (found_answer f buffer') s []) (long : length buffer ≡ value_limit) where
-      pub row-absent : (k : Refusal) → f ≡ Found.Refused k → (r : ℕ) (out' : List ℕ) → RowWrote s path out at r out'
+    module _ (f : Result ℕ Refusal) (buffer buffer' : List ℕ) (m : Meets s (asks (get path) buffer) (found_answer f buffer') s []) (long : length buffer ≡ value_limit) where
+      pub row-absent : (k : Refusal) → f ≡ Err k → (r : ℕ) (out' : List ℕ) → RowWrote s path out at r out'
       row-absent k e r out' = record { row = λ y z. absurd (row-refused s path out buffer f buffer' k h x (omega arith) m e) }
 
-      pub row_fits : (n : ℕ) → f ≡ Found.Length n → n ≤ value_limit
+      pub row_fits : (n : ℕ) → f ≡ Ok n → n ≤ value_limit
       row_fits n e = found-length f n value_limit e (get-short s out h path buffer f buffer' m)
 
-      pub row_wrote : (n : ℕ) → f ≡ Found.Length n → (stop : ℕ) (out₃ : List ℕ) → Wrote out₂ start (value_text (take (n - 0) (drop 0 buffer'))) stop out₃
+      pub row_wrote : (n : ℕ) → f ≡ Ok n → (stop : ℕ) (out₃ : List ℕ) → Wrote out₂ start (value_text (take (n - 0) (drop 0 buffer'))) stop out₃
           → (r : ℕ) (out' : List ℕ) → Wrote out₃ stop (10 ∷ []) r out' → RowWrote s path out at r out'
       unfolding row_text
       row_wrote n e stop out₃ a r out' b =
@@ -182,7 +180,7 @@ front-part : (bytes : List ℕ) (n : ℕ) (buffer : List ℕ) → Front bytes n 
 front-part bytes n buffer f = let z : n - 0 ≡ n = omega arith in ap (λ k. take k buffer) z ∙ f.is
 
 module _ (s out : List ℕ) (h : Held s out) (text : List ℕ) (n : ℕ) (buffer : List ℕ) (f : Front (path_of text) n buffer) where
-  module _ (work : List ℕ) (l : 8192 ≤ length work) (o : Outcome) (s' w' out₁ : List ℕ) (r : ℕ) (out' : List ℕ)
+  module _ (work : List ℕ) (l : 8192 ≤ length work) (o : Result (Unit {0}) Refusal) (s' w' out₁ : List ℕ) (r : ℕ) (out' : List ℕ)
       (w : Wrote out₁ 0 (answer_text (outcome_answer o)) r out') where
     pub drop-answered : Meets s (acts (drops (take (n - 0) (drop 0 buffer))) work) (outcome_answer o) s' w' → Answered s (acting (drops (path_of text))) r out' s'
     drop-answered m =
@@ -199,7 +197,7 @@ module _ (s out : List ℕ) (h : Held s out) (text : List ℕ) (n : ℕ) (buffer
         answered-as s _ _ r out' s' (ap₂ (λ p q. acting (move p q)) (front-part (path_of text) n buffer f) (front-part (path_of second) m to g))
         (act-answered s out h _ work o s' w' out₁ r out' l x w)
 
-    pub put-answered : (hex : List ℕ) (v : Value) (value : List ℕ) (len : ℕ) → Parsed (value_of hex) v value → v ≡ Value.Length len
+    pub put-answered : (hex : List ℕ) (v : std.Option ℕ) (value : List ℕ) (len : ℕ) → Parsed (value_of hex) v value → v ≡ Some len
         → Meets s (acts (put (take (n - 0) (drop 0 buffer)) (take (len - 0) (drop 0 value))) work) (outcome_answer o) s' w'
         → Answered s (putting (path_of text) (value_of hex)) r out' s'
     unfolding putting value_read
@@ -209,7 +207,7 @@ module _ (s out : List ℕ) (h : Held s out) (text : List ℕ) (n : ℕ) (buffer
         answered-as s _ _ r out' s' (ap (λ q. acting (put q (take (len - 0) (drop 0 value)))) (front-part (path_of text) n buffer f) ∙ ap (putting (path_of text)) (sym is))
         (act-answered s out h _ work o s' w' out₁ r out' l m w)
 
-  pub get-found : (g : Found) (value : List ℕ) → Meets s (asks (get (take (n - 0) (drop 0 buffer))) value_buffer) (found_answer g value) s []
+  pub get-found : (g : Result ℕ Refusal) (value : List ℕ) → Meets s (asks (get (take (n - 0) (drop 0 buffer))) value_buffer) (found_answer g value) s []
       → (out₁ : List ℕ) (r : ℕ) (out' : List ℕ) → Wrote out₁ 0 (answer_text (found_answer g value)) r out' → Answered s (getting (path_of text)) r out' s
   get-found g value m out₁ r out' w =
       answered-as s _ _ r out' s (ap getting (front-part (path_of text) n buffer f)) (get-answered s out h _ g value out₁ r out' m w)
@@ -231,13 +229,13 @@ pub list-formed : (x : Bool) (p : List ℕ) → x ≡ path_or_empty p → not x 
 list-formed x p e g = sym e ∙ not-false x g
 
 -- a value that does not read
-pub put-bad : (s out : List ℕ) → Held s out → (path hex : List ℕ) (v : Value) (value : List ℕ) → Parsed (value_of hex) v value → v ≡ Value.Wrong
+pub put-bad : (s out : List ℕ) → Held s out → (path hex : List ℕ) (v : std.Option ℕ) (value : List ℕ) → Parsed (value_of hex) v value → v ≡ None
     → (out₁ : List ℕ) (r : ℕ) (out' : List ℕ) → Wrote out₁ 0 bad_text r out' → Answered s (putting path (value_of hex)) r out' s
 unfolding putting value_read
 put-bad s out h path hex v value p e out₁ r out' w =
     let is : value_of hex ≡ none = sym p.is ∙ ap (λ x. value_read x value) e in
     answered-as s _ _ r out' s (ap (putting path) (sym is)) (bad-answered s out h out₁ r out' w)
 
-pub value_length : (want : Option (List ℕ)) (v : Value) (value : List ℕ) (len : ℕ) → Parsed want v value → v ≡ Value.Length len → len ≤ length value
+pub value_length : (want : Option (List ℕ)) (v : std.Option ℕ) (value : List ℕ) (len : ℕ) → Parsed want v value → v ≡ Some len → len ≤ length value
 unfolding read_length
 value_length want v value len p e = rw e at p.within

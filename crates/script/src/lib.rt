@@ -19,9 +19,6 @@ ghost use Rattle.script.specs.Rows.{Present, RowWrote};
 ghost use Rattle.script.specs.Input.{Feeds, Finishes};
 ghost use Rattle.script.specs.Line.{path_command, two_command, rest_command};
 
-use image::Found;
-use reading::Value;
-
 // A path that the store holds, a space, its value and a line feed: where the line ends.
 fn put_row(store: &[u8], path: &[u8], out: &mut [u8], at: usize) -> usize
     requires { Held store.now out.old × Present store.now path.now × (at + row_limit ≤ length out.old) }
@@ -32,7 +29,7 @@ fn put_row(store: &[u8], path: &[u8], out: &mut [u8], at: usize) -> usize
     let start = writing::put_byte(32, out, gap);
     let mut value = [0u8; image::VALUE_LIMIT];
     let found = query::get(store, path, &mut value);
-    let Found::Length(n) = found else {
+    let Ok(n) = found else {
         return start; // the path is there, so get finds it
     };
     let stop = writing::put_value(&value[0..n], out, start);
@@ -50,7 +47,7 @@ fn put_rows(store: &[u8], path: &[u8], out: &mut [u8]) -> usize
     loop {
         let mut key = [0u8; 64];
         let found = query::next(store, path, &last[0..size], &mut key);
-        let Found::Length(n) = found else {
+        let Ok(n) = found else {
             return writing::put_end(out, at); // next found none
         };
         at = put_row(store, &key[0..n], out, at);
@@ -129,7 +126,7 @@ fn answer_put(store: &mut [u8], work: &mut [u8], text: &[u8], hex: &[u8], out: &
 {
     let mut value = [0u8; 128];
     let parsed = reading::read_value(hex, &mut value);
-    let Value::Length(len) = parsed else {
+    let Some(len) = parsed else {
         return writing::put_bad(out); // odd or wrong hexadecimal
     };
     let mut path = [0u8; 256];

@@ -61,15 +61,8 @@ fn read_digit(b: u8) -> u8
     16
 }
 
-// What a field gives as a value: its length, or that it is odd or wrong hexadecimal.
-#[derive(Clone, Copy)]
-pub enum Value {
-    Length(usize),
-    Wrong,
-}
-
 // The bytes of hexadecimal text, at the front of the buffer.
-fn read_hex(hex: &[u8], value: &mut [u8]) -> Value
+fn read_hex(hex: &[u8], value: &mut [u8]) -> Option<usize>
     requires { length hex.now ≤ 2 * length value.old }
     ensures { Parsed (bytes_of hex.now) result value.new }
 {
@@ -77,30 +70,30 @@ fn read_hex(hex: &[u8], value: &mut [u8]) -> Value
     let mut i = 0;
     while i < hex.len() {
         if hex.len() - i < 2 {
-            return Value::Wrong;
+            return None;
         }
         let high = read_digit(hex[i]);
         if 15 < high {
-            return Value::Wrong;
+            return None;
         }
         let low = read_digit(hex[i + 1]);
         if 15 < low {
-            return Value::Wrong;
+            return None;
         }
         value[n] = 16 * high + low;
         n += 1;
         i += 2;
     }
-    Value::Length(n)
+    Some(n)
 }
 
 // The value of a field.
-pub fn read_value(text: &[u8], value: &mut [u8]) -> Value
+pub fn read_value(text: &[u8], value: &mut [u8]) -> Option<usize>
     requires { length text.now ≤ 2 * length value.old }
     ensures { Parsed (value_of text.now) result value.new }
 {
     if octets::equal(text, b"-") {
-        return Value::Length(0);
+        return Some(0);
     }
     read_hex(text, value)
 }

@@ -1,5 +1,5 @@
 // The texts of answers, put into a page that is lent: each function answers where its text ends.
-// Relies on octets for bytes, and on requests for the numbers of refusals; image, Program defines each text.
+// Relies on octets for bytes, and on image for the numbers of refusals; image, Program defines each text.
 ghost use Rattle.std.specs.Prelude.{◌+◌, ◌*◌, ◌<◌, ◌≤◌, ◌≡◌, cond, [], ◌∷◌, length, eqb};
 ghost use Rattle.image.specs.Path.{value_limit};
 ghost use Rattle.image.specs.Answers.{outcome_answer, found_answer};
@@ -7,7 +7,7 @@ ghost use Rattle.query.specs.Asked.{found_length};
 ghost use Rattle.image.specs.Program.{exchanged, digit_text, hex_text, value_text, bad_text, end_text, decimal, refused_text, answer_text};
 ghost use Rattle.script.specs.Writing.{Wrote};
 
-use image::{Found, Outcome};
+use image::Refusal;
 
 // One byte for another.
 fn exchange_byte(c: u8, from: u8, to: u8) -> u8
@@ -109,27 +109,27 @@ pub fn put_refused(number: u32, out: &mut [u8]) -> usize
 }
 
 // `ok` or the refusal.
-pub fn put_outcome(outcome: Outcome, out: &mut [u8]) -> usize
+pub fn put_outcome(outcome: Result<(), Refusal>, out: &mut [u8]) -> usize
     requires { 11 ≤ length out.old }
     ensures { Wrote out.old 0 (answer_text (outcome_answer outcome)) result out.new }
 {
     match outcome {
-        Outcome::Done => put_text(b"ok\n", out, 0),
-        Outcome::Refused(refusal) => put_refused(requests::refusal_number(refusal), out),
+        Ok(()) => put_text(b"ok\n", out, 0),
+        Err(refusal) => put_refused(u32::from(refusal), out),
     }
 }
 
 // The value that get found, or the refusal.
-pub fn put_found(found: Found, value: &[u8], out: &mut [u8]) -> usize
+pub fn put_found(found: Result<usize, Refusal>, value: &[u8], out: &mut [u8]) -> usize
     requires { (found_length found ≤ value_limit) × (value_limit ≤ length value.now) × (2 * value_limit + 1 ≤ length out.old) }
     ensures { Wrote out.old 0 (answer_text (found_answer found value.now)) result out.new }
 {
     match found {
-        Found::Length(n) => {
+        Ok(n) => {
             let at = put_value(&value[0..n], out, 0);
             put_byte(10, out, at)
         }
-        Found::Refused(refusal) => put_refused(requests::refusal_number(refusal), out),
+        Err(refusal) => put_refused(u32::from(refusal), out),
     }
 }
 

@@ -15,7 +15,7 @@ ghost use Rattle.splicelog.specs.Words.{found_number, Holds};
 ghost use Rattle.splicelog.specs.BatchWord.{answers_room, answers_used, answers_left};
 
 use batch::Batched;
-use image::{Found, Sameness, Verdict};
+use image::Refusal;
 
 // The number in the low 32 bits, what stands beside it in the high 32.
 fn word(number: u32, beside: usize) -> u64
@@ -25,33 +25,35 @@ fn word(number: u32, beside: usize) -> u64
     number as u64 + 4294967296 * (beside as u64)
 }
 
-fn found_word(found: Found) -> u64
+#[tactic(auto, unfolding(crate::specs::Words::found_number, query::specs::Asked::found_length))]
+fn found_word(found: Result<usize, Refusal>) -> u64
     requires { found_length found ≤ path_limit }
     ensures { Holds result (found_number found) (found_length found) }
 {
     match found {
-        Found::Length(n) => word(0, n),
-        Found::Refused(refusal) => word(requests::refusal_number(refusal), 0),
+        Ok(length) => word(0, length),
+        Err(refusal) => word(u32::from(refusal), 0),
     }
 }
 
-fn sameness_word(sameness: Sameness) -> u64
+#[tactic(auto, unfolding(image::specs::Answers::sameness_number, image::specs::Answers::sameness_verdict))]
+fn sameness_word(sameness: Result<bool, Refusal>) -> u64
     ensures { Holds result (sameness_number sameness) (sameness_verdict sameness) }
 {
     match sameness {
-        Sameness::Same => word(0, 1),
-        Sameness::Different => word(0, 0),
-        Sameness::Refused(refusal) => word(requests::refusal_number(refusal), 0),
+        Ok(same) => word(0, usize::from(same)),
+        Err(refusal) => word(u32::from(refusal), 0),
     }
 }
 
-fn verdict_word(verdict: Verdict) -> u64
+#[tactic(auto, unfolding(image::specs::Answers::verdict_number, image::specs::Answers::verdict_paths))]
+fn verdict_word(verdict: Result<usize, Refusal>) -> u64
     requires { verdict_paths verdict ≤ most_nodes }
     ensures { Holds result (verdict_number verdict) (verdict_paths verdict) }
 {
     match verdict {
-        Verdict::Sound(paths) => word(0, paths),
-        Verdict::Refused(refusal) => word(requests::refusal_number(refusal), 0),
+        Ok(paths) => word(0, paths),
+        Err(refusal) => word(u32::from(refusal), 0),
     }
 }
 

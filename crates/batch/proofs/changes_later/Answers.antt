@@ -1,16 +1,16 @@
 -- `batch::changes_later` ends and stays inside the list: each piece that reads ends behind its place. Relies on specs/Steps.
-use Rattle.batch.specs.Steps.{change-moves, query-moves}
+use Rattle.batch.specs.Steps.{reads-next}
 use Rattle.image.specs.Prelude.{arith}
 use Rattle.batch.proofs.changes_later.Goals as goal
 
-pub loop-change-smaller-in-Change : goal.loop-change-smaller-in-Change
-loop-change-smaller-in-Change c = let m = change-moves _ _ _ c.read_piece-reading.ensures _ c.in-Change.is in omega (arith, m.0, m.1)
+pub loop-reading-smaller-else-changes_root : goal.loop-reading-smaller-else-changes_root
+loop-reading-smaller-else-changes_root c = let m = reads-next _ _ _ _ c.read_piece.ensures c.in-Some.is in omega (arith, m.0, m.1)
 
-pub loop-change-preserved-in-Change : goal.loop-change-preserved-in-Change
-loop-change-preserved-in-Change c = (change-moves _ _ _ c.read_piece-reading.ensures _ c.in-Change.is).1
+pub loop-reading-preserved-else-changes_root : goal.loop-reading-preserved-else-changes_root
+loop-reading-preserved-else-changes_root c = (reads-next _ _ _ _ c.read_piece.ensures c.in-Some.is).1
 
-pub loop-change-smaller : goal.loop-change-smaller
-loop-change-smaller c = let m = query-moves _ _ _ c.read_piece-reading.ensures _ c.in-Query.is in omega (arith, m.0, m.1)
+pub loop-reading-smaller : goal.loop-reading-smaller
+loop-reading-smaller c = let m = reads-next _ _ _ _ c.read_piece.ensures c.in-Some.is in omega (arith, m.0, m.1)
 
-pub loop-change-preserved : goal.loop-change-preserved
-loop-change-preserved c = (query-moves _ _ _ c.read_piece-reading.ensures _ c.in-Query.is).1
+pub loop-reading-preserved : goal.loop-reading-preserved
+loop-reading-preserved c = (reads-next _ _ _ _ c.read_piece.ensures c.in-Some.is).1

@@ -2,8 +2,8 @@
 use Rattle.std.specs.Prelude.{◌-◌, ◌≤◌, length}
 use Rattle.batch.proofs.changes_later.Given as goal
 
-abbrev pub invariant-loop-change : goal.invariant-loop-change
-invariant-loop-change l = l.next ≤ length l.calls
+abbrev pub invariant-loop-reading : goal.invariant-loop-reading
+invariant-loop-reading l = l.next ≤ length l.calls
 
-abbrev pub decreases-loop-change : goal.decreases-loop-change
-decreases-loop-change l = length l.calls - l.next
+abbrev pub decreases-loop-reading : goal.decreases-loop-reading
+decreases-loop-reading l = length l.calls - l.next

@@ -4,8 +4,8 @@ use Rattle.batch.specs.Served.{SoFar}
 use Rattle.std.specs.Prelude.{◌-◌, ◌≡◌, length}
 use Rattle.batch.proofs.run.Given as goal
 
-abbrev pub invariant-loop-end : goal.invariant-loop-end
-invariant-loop-end l = SoFar l.initial.store l.initial.work l.calls l.initial.answers l.store l.work l.answers l.at l.done l.written × (length l.store ≡ length l.initial.store) × (length l.work ≡ length l.initial.work) × (length l.answers ≡ length l.initial.answers)
+abbrev pub invariant-loop-turn : goal.invariant-loop-turn
+invariant-loop-turn l = SoFar l.initial.store l.initial.work l.calls l.initial.answers l.store l.work l.answers l.at l.done l.written × (length l.store ≡ length l.initial.store) × (length l.work ≡ length l.initial.work) × (length l.answers ≡ length l.initial.answers)
 
-abbrev pub decreases-loop-end : goal.decreases-loop-end
-decreases-loop-end l = length l.calls - l.at
+abbrev pub decreases-loop-turn : goal.decreases-loop-turn
+decreases-loop-turn l = length l.calls - l.at

@@ -6,7 +6,7 @@ use Rattle.tree_check.specs.Callers.{messages-settled}
 use Rattle.rename.proofs.move_paths.Goals as goal
 
 pub move_fit-requires : goal.move_fit-requires
-move_fit-requires c = let f = asked-fit _ _ _ _ c.ask-asked.ensures _ c.in-Fit.is in (passed _ _ _ _ f, f.holds.reached, messages-settled _ _ _ f.holds)
+move_fit-requires c = let f = asked-fit _ _ _ _ c.in_ok-tally.ensures in (passed _ _ _ _ f, f.holds.reached, messages-settled _ _ _ f.holds)
 
-pub returns-in-Refused : goal.returns-in-Refused
-returns-in-Refused c = refused-meets _ _ _ _ c.ask-asked.ensures _ c.in-Refused.is _ to_act
+pub returns-in_err-tally : goal.returns-in_err-tally
+returns-in_err-tally c = refused-meets _ _ _ _ c.in_err-tally.ensures _ c.from_residual.ensures.1 _ to_act

@@ -1,6 +1,6 @@
 -- The call move from its steps: the questions in order, the path that stays, and the swing with the live count made right.
 -- Relies on slice/Moving's swung (what the swing leaves), on Prepared, and on finish's Finished.
-use Rattle.std.specs.Prelude.{ℕ, zero, suc, ◌+◌, ◌*◌, ◌-◌, ◌≤◌, ◌≡◌, refl, List, Bool, true, false, ◌&&◌, not, length, take}
+use Rattle.std.specs.Prelude.{ℕ, zero, suc, ◌+◌, ◌*◌, ◌-◌, ◌/◌, ◌≤◌, ◌≡◌, refl, List, Bool, true, false, ◌&&◌, not, length, take, drop, Ok, Err}
 use Rattle.image.specs.Prelude.{sym, ap, ap₂, subst, ◌∙◌, false≢true, arith, length-take-le}
 use Rattle.image.specs.Bytes.{same, begins}
 use Rattle.image.specs.Path.{well_formed, proper_beginning, may_move}
@@ -12,7 +12,6 @@ use Rattle.image.specs.Calls.{acts, move, first_no, is_empty, questions, act_que
 use Rattle.image.specs.Contract.{node_questions, first_no_on, Besides, Meets}
 use Rattle.image.specs.Answers.{refusal_number, outcome_answer}
 use Rattle.image.specs.declared.Refusal.{Refusal}
-use Rattle.image.specs.declared.Outcome.{Outcome}
 use Rattle.octets.specs.Order.{and_left, and_right, not_so, same_refl, same_turn}
 use Rattle.laws.specs.ButLive.{sound_but_live, parts_of, sound-but-live}
 use Rattle.laws.specs.Follow.{table-rises}
@@ -41,26 +40,26 @@ module _ (s w : List ℕ) (f : Passed s w) (from to : List ℕ) (a : Bool) (a-is
       shown = unfold later_no node_questions questions in refl
 
   refuse : (r : Refusal) → first_no (act_questions (nodes_of (length s)) (move from to) (table_of s)) ≡ refusal_number r
-      → Meets s (acts (move from to) w) (outcome_answer (Outcome.Refused r)) s w
+      → Meets s (acts (move from to) w) (outcome_answer (Err r)) s w
   refuse r e = act-refused s r to_act (number_is ∙ e)
 
-  pub from-malformed : a ≡ false → Meets s (acts (move from to) w) (outcome_answer (Outcome.Refused Refusal.Malformed)) s w
+  pub from-malformed : a ≡ false → Meets s (acts (move from to) w) (outcome_answer (Err Refusal.Malformed)) s w
   from-malformed e = refuse Refusal.Malformed (unfold act_questions first_no refusal_number in rw (sym a-is ∙ e) refl)
 
   module _ (a-yes : a ≡ true) (b : Bool) (b-is : b ≡ well_formed to) where
-    pub to-malformed : b ≡ false → Meets s (acts (move from to) w) (outcome_answer (Outcome.Refused Refusal.Malformed)) s w
+    pub to-malformed : b ≡ false → Meets s (acts (move from to) w) (outcome_answer (Err Refusal.Malformed)) s w
     to-malformed e = refuse Refusal.Malformed (unfold act_questions first_no refusal_number in rw (sym a-is ∙ a-yes, sym b-is ∙ e) refl)
 
     module _ (b-yes : b ≡ true) (c : Bool) (c-is : c ≡ may_move from to) where
-      pub nested : c ≡ false → Meets s (acts (move from to) w) (outcome_answer (Outcome.Refused Refusal.Nested)) s w
+      pub nested : c ≡ false → Meets s (acts (move from to) w) (outcome_answer (Err Refusal.Nested)) s w
       nested e = refuse Refusal.Nested (unfold act_questions first_no refusal_number in rw (sym a-is ∙ a-yes, sym b-is ∙ b-yes, sym c-is ∙ e) refl)
 
       module _ (c-yes : c ≡ true) (d : Bool) (d-is : d ≡ not (is_empty (rows_below from (table_of s)))) where
-        pub absent : d ≡ false → Meets s (acts (move from to) w) (outcome_answer (Outcome.Refused Refusal.Absent)) s w
+        pub absent : d ≡ false → Meets s (acts (move from to) w) (outcome_answer (Err Refusal.Absent)) s w
         absent e = refuse Refusal.Absent (unfold act_questions first_no refusal_number in rw (sym a-is ∙ a-yes, sym b-is ∙ b-yes, sym c-is ∙ c-yes, sym d-is ∙ e) refl)
 
         module _ (d-yes : d ≡ true) (e : Bool) (e-is : e ≡ every_key well_formed (moved from to (table_of s))) where
-          pub becomes-malformed : e ≡ false → Meets s (acts (move from to) w) (outcome_answer (Outcome.Refused Refusal.BecomesMalformed)) s w
+          pub becomes-malformed : e ≡ false → Meets s (acts (move from to) w) (outcome_answer (Err Refusal.BecomesMalformed)) s w
           becomes-malformed h =
               refuse Refusal.BecomesMalformed
               (unfold act_questions first_no refusal_number in rw (sym a-is ∙ a-yes, sym b-is ∙ b-yes, sym c-is ∙ c-yes, sym d-is ∙ d-yes, sym e-is ∙ h) refl)
@@ -89,7 +88,7 @@ changed-none zero s = refl
 changed-none (suc k) s = rw (same_refl (node_bytes s k)) (omega (arith, changed-none k s))
 
 pub stays-meets : (s w w' from to : List ℕ) → sound s ≡ true → first_no_on s (acts (move from to) w) ≡ 0 → from ≡ to → w' ≡ cleared (nodes_of (length s)) w
-    → Meets s (acts (move from to) w) (outcome_answer Outcome.Done) s w'
+    → Meets s (acts (move from to) w) (outcome_answer (Ok tt)) s w'
 unfolding table_after act_table Besides
 stays-meets s w w' from to ok go e z =
     act-meets s s w' to_act go ok (sym (moved_nowhere from (table_of s) (table-rises s ok)) ∙ ap (λ q. moved from q (table_of s)) e) refl z
@@ -169,7 +168,7 @@ live-few s ok = (parts_of s (sound-but-live s ok)).live_high
 -- THE CALL
 pub moved-meets : (s s₁ s₂ s₃ w w₁ w₂ numbers free from to : List ℕ) (r : ℕ) → whole_nodes (length s) ≡ true → first_no_on s (acts (move from to) w) ≡ 0 → same from to ≡ false
     → Prepared s s₁ w w₁ numbers r → SwingAsks s₁ free from to → s₂ ≡ swung_with (header_of s₁).live s₁ (handed free) from to → Finished s₂ s₃ w₁ w₂
-    → Meets s (acts (move from to) w) (outcome_answer Outcome.Done) s₃ w₂
+    → Meets s (acts (move from to) w) (outcome_answer (Ok tt)) s₃ w₂
 unfolding table_after act_table Besides
 moved-meets s s₁ s₂ s₃ w w₁ w₂ numbers free from to r whole go differ p k e z =
     let l : (header_of s₁).live ≤ nodes_of (length s₁) = live-few s₁ p.is_sound in

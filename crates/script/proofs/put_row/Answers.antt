@@ -13,13 +13,13 @@ pub returns-in_default : goal.returns-in_default
 returns-in_default c = row-absent _ _ _ _ c.requires.0 c.requires.1 (length c.args.path.now - 1) refl _ _ c.put_exchanged-gap.ensures _ _ c.put_byte-start.ensures _ _ _ c.get-found.ensures.meets refl _ c.in_default.is _ _
 
 pub slice_bounds-put_value-end : goal.slice_bounds-put_value-end
-slice_bounds-put_value-end c = let l = row_fits _ _ _ _ c.requires.0 c.requires.1 (length c.args.path.now - 1) refl _ _ c.put_exchanged-gap.ensures _ _ c.put_byte-start.ensures _ _ _ c.get-found.ensures.meets refl _ c.in-Length.is in omega arith
+slice_bounds-put_value-end c = let l = row_fits _ _ _ _ c.requires.0 c.requires.1 (length c.args.path.now - 1) refl _ _ c.put_exchanged-gap.ensures _ _ c.put_byte-start.ensures _ _ _ c.get-found.ensures.meets refl _ c.in-Ok.is in omega arith
 
 pub put_value-stop-requires : goal.put_value-stop-requires
-put_value-stop-requires c = (part-short _ _ value_limit (row_fits _ _ _ _ c.requires.0 c.requires.1 (length c.args.path.now - 1) refl _ _ c.put_exchanged-gap.ensures _ _ c.put_byte-start.ensures _ _ _ c.get-found.ensures.meets refl _ c.in-Length.is), omega (arith, start-ends _ _ _ _ c.requires.0 c.requires.1 (length c.args.path.now - 1) refl _ _ c.put_exchanged-gap.ensures _ _ c.put_byte-start.ensures))
+put_value-stop-requires c = (part-short _ _ value_limit (row_fits _ _ _ _ c.requires.0 c.requires.1 (length c.args.path.now - 1) refl _ _ c.put_exchanged-gap.ensures _ _ c.put_byte-start.ensures _ _ _ c.get-found.ensures.meets refl _ c.in-Ok.is), omega (arith, start-ends _ _ _ _ c.requires.0 c.requires.1 (length c.args.path.now - 1) refl _ _ c.put_exchanged-gap.ensures _ _ c.put_byte-start.ensures))
 
 pub put_byte-requires : goal.put_byte-requires
-put_byte-requires c = let e = value-ends _ _ _ _ _ c.put_value-stop.ensures (part-short _ _ value_limit (row_fits _ _ _ _ c.requires.0 c.requires.1 (length c.args.path.now - 1) refl _ _ c.put_exchanged-gap.ensures _ _ c.put_byte-start.ensures _ _ _ c.get-found.ensures.meets refl _ c.in-Length.is)) in let f = start-ends _ _ _ _ c.requires.0 c.requires.1 (length c.args.path.now - 1) refl _ _ c.put_exchanged-gap.ensures _ _ c.put_byte-start.ensures in omega arith
+put_byte-requires c = let e = value-ends _ _ _ _ _ c.put_value-stop.ensures (part-short _ _ value_limit (row_fits _ _ _ _ c.requires.0 c.requires.1 (length c.args.path.now - 1) refl _ _ c.put_exchanged-gap.ensures _ _ c.put_byte-start.ensures _ _ _ c.get-found.ensures.meets refl _ c.in-Ok.is)) in let f = start-ends _ _ _ _ c.requires.0 c.requires.1 (length c.args.path.now - 1) refl _ _ c.put_exchanged-gap.ensures _ _ c.put_byte-start.ensures in omega arith
 
 pub returns : goal.returns
-returns c = row_wrote _ _ _ _ c.requires.0 c.requires.1 (length c.args.path.now - 1) refl _ _ c.put_exchanged-gap.ensures _ _ c.put_byte-start.ensures _ _ _ c.get-found.ensures.meets refl _ c.in-Length.is _ _ c.put_value-stop.ensures _ _ c.put_byte.ensures
+returns c = row_wrote _ _ _ _ c.requires.0 c.requires.1 (length c.args.path.now - 1) refl _ _ c.put_exchanged-gap.ensures _ _ c.put_byte-start.ensures _ _ _ c.get-found.ensures.meets refl _ c.in-Ok.is _ _ c.put_value-stop.ensures _ _ c.put_byte.ensures

@@ -21,13 +21,13 @@ pub returns-in_default : goal.returns-in_default
 returns-in_default c = wrote-front _ _ _ _ _ (walk_ends _ _ _ _ _ _ (held_on _ _ _ c.requires.0 c.loop-n.invariant.2) c.requires.1 c.loop-n.invariant.3 (omega arith) _ _ c.next-found.ensures.meets _ c.in_default.is _ _ c.put_end.ensures)
 
 pub slice_bounds-put_row-end : goal.slice_bounds-put_row-end
-slice_bounds-put_row-end c = let l = key-short _ _ _ _ _ _ (held_on _ _ _ c.requires.0 c.loop-n.invariant.2) c.requires.1 c.loop-n.invariant.3 (omega arith) _ _ c.next-found.ensures.meets _ c.in-Length.is in omega arith
+slice_bounds-put_row-end c = let l = key-short _ _ _ _ _ _ (held_on _ _ _ c.requires.0 c.loop-n.invariant.2) c.requires.1 c.loop-n.invariant.3 (omega arith) _ _ c.next-found.ensures.meets _ c.in-Ok.is in omega arith
 
 pub put_row-at-requires : goal.put_row-at-requires
-put_row-at-requires c = (held_on _ _ _ c.requires.0 c.loop-n.invariant.2, part-present _ _ _ _ _ _ (held_on _ _ _ c.requires.0 c.loop-n.invariant.2) c.requires.1 c.loop-n.invariant.3 (omega arith) _ _ c.next-found.ensures.meets _ c.in-Length.is, let l = row_room _ _ _ _ _ _ (held_on _ _ _ c.requires.0 c.loop-n.invariant.2) c.requires.1 c.loop-n.invariant.3 (omega arith) _ _ c.next-found.ensures.meets _ c.in-Length.is in omega (arith, c.requires.0.page))
+put_row-at-requires c = (held_on _ _ _ c.requires.0 c.loop-n.invariant.2, part-present _ _ _ _ _ _ (held_on _ _ _ c.requires.0 c.loop-n.invariant.2) c.requires.1 c.loop-n.invariant.3 (omega arith) _ _ c.next-found.ensures.meets _ c.in-Ok.is, let l = row_room _ _ _ _ _ _ (held_on _ _ _ c.requires.0 c.loop-n.invariant.2) c.requires.1 c.loop-n.invariant.3 (omega arith) _ _ c.next-found.ensures.meets _ c.in-Ok.is in omega (arith, c.requires.0.page))
 
 pub loop-n-smaller : goal.loop-n-smaller
-loop-n-smaller c = part-shortens _ _ _ _ _ _ (held_on _ _ _ c.requires.0 c.loop-n.invariant.2) c.requires.1 c.loop-n.invariant.3 (omega arith) _ _ c.next-found.ensures.meets _ c.in-Length.is
+loop-n-smaller c = part-shortens _ _ _ _ _ _ (held_on _ _ _ c.requires.0 c.loop-n.invariant.2) c.requires.1 c.loop-n.invariant.3 (omega arith) _ _ c.next-found.ensures.meets _ c.in-Ok.is
 
 pub loop-n-preserved : goal.loop-n-preserved
-loop-n-preserved c = (key-short _ _ _ _ _ _ (held_on _ _ _ c.requires.0 c.loop-n.invariant.2) c.requires.1 c.loop-n.invariant.3 (omega arith) _ _ c.next-found.ensures.meets _ c.in-Length.is, search rules, search rules, part-goes-on _ _ _ _ _ _ (held_on _ _ _ c.requires.0 c.loop-n.invariant.2) c.requires.1 c.loop-n.invariant.3 (omega arith) _ _ c.next-found.ensures.meets _ c.in-Length.is _ _ c.put_row-at.ensures)
+loop-n-preserved c = (key-short _ _ _ _ _ _ (held_on _ _ _ c.requires.0 c.loop-n.invariant.2) c.requires.1 c.loop-n.invariant.3 (omega arith) _ _ c.next-found.ensures.meets _ c.in-Ok.is, search rules, search rules, part-goes-on _ _ _ _ _ _ (held_on _ _ _ c.requires.0 c.loop-n.invariant.2) c.requires.1 c.loop-n.invariant.3 (omega arith) _ _ c.next-found.ensures.meets _ c.in-Ok.is _ _ c.put_row-at.ensures)

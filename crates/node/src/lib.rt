@@ -7,6 +7,7 @@
 pub mod branches;
 pub mod entries;
 pub mod header;
+pub mod path_buffer;
 pub mod search;
 pub mod writer;
 

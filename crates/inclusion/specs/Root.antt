@@ -2,9 +2,9 @@
 -- Relies on: Held, that every present path stands in an entry (laws/Reading/Seek), and that lookup is the table (successor/specs/Present).
 use Rattle.std.specs.Prelude.{ℕ, ◌≡◌, refl, List, [], ◌∷◌, Bool, true, false, ◌||◌, not}
 use Rattle.image.specs.Prelude.{sym, ap, ◌∙◌, Option, none, some}
-use Rattle.image.specs.Bytes.{shared, u16}
+use Rattle.image.specs.Bytes.{shared}
 use Rattle.image.specs.Table.{Row, find, is_some, every_key}
-use Rattle.image.specs.Image.{tree_at, tree_of}
+use Rattle.image.specs.Image.{tree_of}
 use Rattle.image.specs.Sound.{sound, table_of, lowest, highest}
 use Rattle.octets.specs.Order.{not_so, upheld}
 use Rattle.laws.specs.Rising.{both, both_ways}
@@ -14,7 +14,6 @@ use Rattle.laws.specs.Frame.{or_left, or_right}
 use Rattle.laws.specs.Reading.Relative.{lifts}
 use Rattle.laws.specs.Reading.Seek.{every, is_key, present, not-present, keys, stands, key-passes}
 use Rattle.laws.specs.Reading.SeekHere.{under, keys_here, keys-here}
-use Rattle.lookup.specs.Root.{root_is}
 use Rattle.successor.specs.Walk.{is_present}
 use Rattle.successor.specs.Present.{present-is}
 use Rattle.inclusion.specs.Held.{is_held, all_held, included}
@@ -70,11 +69,9 @@ module _ (s t : List ℕ) (s-sound : sound s ≡ true) (t-sound : sound t ≡ tr
       (λ h. every-so (is_held s t) (there-held h) ks)
 
   -- 3. From the root.
-  pub root-decides : (root levels : ℕ) → root ≡ u16 s 6 → levels ≡ u16 s 8
-      → all_held s t (under [] (keys_here (tree_at levels s root) highest)) ≡ included (table_of s) (table_of t)
-  root-decides root levels a b =
-      ap (λ v. all_held s t (under [] (keys_here v highest))) (root_is s root levels s-sound a b)
-      ∙ ap (λ ks. all_held s t ks) whole
+  pub root-decides : all_held s t (under [] (keys_here (tree_of s) highest)) ≡ included (table_of s) (table_of t)
+  root-decides =
+      ap (λ ks. all_held s t ks) whole
       ∙ decides (keys (tree_of s) lowest highest) (λ k h. stands (tree_of s) lowest highest k (unfold table_of in h))
     where
       whole : under [] (keys_here (tree_of s) highest) ≡ keys (tree_of s) lowest highest

@@ -30,6 +30,18 @@ abbrev pub said_is : found.Option (found.Option (Bor (List ℕ))) → Said
 said_is found.None = nothing
 said_is (found.Some v) = says (value_is v)
 
+-- the path that an entry may hold a value for: of a pair and of a put
+unfoldable pub path_of : defined.Entry → List (List ℕ)
+path_of (defined.pair k v) = k ∷ []
+path_of (defined.child i k) = []
+path_of (defined.message (defined.puts k v)) = k ∷ []
+path_of (defined.message (defined.drops k)) = []
+path_of (defined.message (defined.clears k)) = []
+
+abbrev pub path_is : found.Option (Bor (List ℕ)) → List (List ℕ)
+path_is found.None = []
+path_is (found.Some k) = k.now ∷ []
+
 abbrev pub left_of : Entries → List defined.Entry
 left_of it = list_of it.rest.now
 

@@ -1,5 +1,6 @@
 pub mod Cut
 pub mod Entries
+pub mod Fitted
 pub mod Lent
 pub mod Content
 pub mod Spans

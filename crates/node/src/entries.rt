@@ -6,7 +6,7 @@ ghost use Rattle.image.specs.Meaning.{says_of};
 ghost use Rattle.node.specs.Cut.{cut};
 ghost use Rattle.node.specs.Entries.{listed};
 ghost use Rattle.node.specs.Whole.{HasEntries};
-ghost use Rattle.node.specs.Lent.{message_is, entry_is, left_of, said_is, Unkeyed, Keyed, Unread, Leads, NotOf, IsOf};
+ghost use Rattle.node.specs.Lent.{message_is, entry_is, left_of, said_is, path_of, path_is, Unkeyed, Keyed, Unread, Leads, NotOf, IsOf};
 
 use crate::header;
 
@@ -54,6 +54,22 @@ impl<'a> Message<'a> {
                     None
                 }
             }
+        }
+    }
+}
+
+impl<'a> Entry<'a> {
+    // The suffix of a pair or of a put: an entry that may hold a value for it.
+    #[tactic(auto, unfolding(crate::specs::Lent::path_of))]
+    pub fn path(self) -> Option<&'a [u8]>
+        ensures { path_is result ≡ path_of (entry_is self.entry) }
+    {
+        match self {
+            Entry::Pair(key, _) => Some(key),
+            Entry::Child(_, _) => None,
+            Entry::Message(Message::Put(key, _)) => Some(key),
+            Entry::Message(Message::Drop(_)) => None,
+            Entry::Message(Message::Clear(_)) => None,
         }
     }
 }

@@ -8,6 +8,7 @@ pub mod branches;
 pub mod entries;
 pub mod header;
 pub mod page;
+pub mod path_buffer;
 pub mod search;
 pub mod writer;
 

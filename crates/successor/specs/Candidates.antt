@@ -5,45 +5,34 @@ use Rattle.image.specs.Prelude.{sym, ap, ap₂, subst, ◌∙◌, append-nil, ap
 use Rattle.image.specs.Bytes.{shared}
 use Rattle.image.specs.Entry as defined
 use Rattle.image.specs.Table.{Row}
-use Rattle.image.specs.Image as image
-use Rattle.image.specs.Image.{leaf, interior, Forest, tree, Branch, Inside, nodes_of, pair_then, pairs_of, message_then, messages_of, no_branches, branch_then, inside_of, forest_of, tree_at}
-use Rattle.image.specs.Meaning.{high_of}
+use Rattle.image.specs.Image.{leaf, interior, Forest, Branch, Inside, nodes_of, pair_then, pairs_of, message_then, messages_of, no_branches, branch_then, inside_of, forest_of, tree_at}
 use Rattle.image.specs.Sound.{sound, sound_tree, sound_forest}
 use Rattle.octets.specs.Order.{and_left, and_right, begins-split, shared-append}
 use Rattle.octets.specs.Beginnings.{shared-left, shared-right, strip-shared}
-use Rattle.octets.specs.Put.{front-is}
 use Rattle.laws.specs.LookupTable.{parts, inner}
 use Rattle.laws.specs.Follow.{formed-length}
-use Rattle.laws.specs.Reading.Relative.{lifts, branch_high, high-joined, usable, usable_in}
+use Rattle.laws.specs.Reading.Relative.{lifts, branch_high, high-at, high-joined, usable, usable_in}
 use Rattle.laws.specs.Reading.Seek.{every, holds, keys-hold, keys_of, puts_of}
 use Rattle.laws.specs.Reading.SeekHere.{under, keys_here, keys_branches, under-under, child-under, keys-here}
-use Rattle.node.specs.Places.{part, entry_in, cursor_of}
-use Rattle.node.specs.Entries.{listed}
-use Rattle.node.specs.declared.Place.{Place}
-use Rattle.node.specs.declared.Cursor.{Cursor}
-use Rattle.node.specs.declared.Entry.{Entry}
-use Rattle.node.specs.declared.search.Branch as found
-use Rattle.node.specs.Search.Own.{branch, branch_is, branches_among, branches-more}
+use Rattle.node.specs.Fitted.{fitted, fitted-is, fitted-long}
+use Rattle.node.specs.Lent.{path_of}
+use Rattle.node.specs.Search.Own.{branches_among}
 use Rattle.lookup.specs.Look.{listing, part-rest, leaf-at, interior-at, inside-splits}
-use Rattle.node.specs.declared.PathBuffer.{PathBuffer}
-use Rattle.successor.specs.Buffer.{buffer_is, fitted}
-use Rattle.successor.specs.BufferSteps.{fitted-held, fitted-not}
-use Rattle.successor.specs.Walk.{path_of, paths_of, child_paths, run_paths, ChildReady, NodeReady, BranchesReady}
+use Rattle.successor.specs.Walk.{paths_of, child_paths, run_paths, ChildReady, NodeReady, BranchesReady}
 use Rattle.successor.specs.Present.{formed-of}
 
 -- 1. The paths of a run of children, a child at a time.
-module _ (level : ℕ) (s hi : List ℕ) (k : Branch) where
-  pub run-last : (es : List defined.Entry) → run_paths level s hi (k ∷ []) es ≡ child_paths level s k.number k.pivot hi ++ paths_of es
-  unfolding run_paths child_paths keys_branches forest_of high_of
-  run-last es =
-      ap (λ l. l ++ paths_of es) (append-nil (under (shared k.pivot hi) (keys_here (tree_at level s k.number) (drop (lifts k.pivot hi) hi))))
+pub run-first : (level : ℕ) (s hi : List ℕ) (k : Branch) (ks : List Branch) (es : List defined.Entry)
+    → run_paths level s hi (k ∷ ks) es ≡ child_paths level s k.number k.pivot (branch_high hi ks) ++ run_paths level s hi ks es
+unfolding run_paths child_paths keys_branches forest_of
+run-first level s hi k ks es =
+    rw (high-at (λ j. tree_at level s j) hi ks)
+    (append_assoc (under (shared k.pivot (branch_high hi ks)) (keys_here (tree_at level s k.number) (drop (lifts k.pivot (branch_high hi ks)) (branch_high hi ks))))
+    (keys_branches (forest_of (λ j. tree_at level s j) ks) hi) (paths_of es))
 
-  pub run_more : (m : Branch) (ks : List Branch) (es : List defined.Entry)
-      → run_paths level s hi (k ∷ m ∷ ks) es ≡ child_paths level s k.number k.pivot m.pivot ++ run_paths level s hi (m ∷ ks) es
-  unfolding run_paths child_paths keys_branches forest_of high_of
-  run_more m ks es =
-      append_assoc (under (shared k.pivot m.pivot) (keys_here (tree_at level s k.number) (drop (lifts k.pivot m.pivot) m.pivot)))
-      (keys_branches (forest_of (λ j. tree_at level s j) (m ∷ ks)) hi) (paths_of es)
+pub run-none : (level : ℕ) (s hi : List ℕ) (es : List defined.Entry) → run_paths level s hi [] es ≡ paths_of es
+unfolding run_paths forest_of keys_branches
+run-none level s hi es = refl
 
 -- 2. A child, entered with a buffer that holds the lifted prefix.
 shared-rest : (a b : List ℕ) → shared a b ++ drop (length (shared a b)) a ≡ a
@@ -64,6 +53,12 @@ module _ (s prefix low high : List ℕ) (level num : ℕ) (c : ChildReady s pref
       (under-under prefix (shared low high) (keys_here (tree_at level s num) (drop (lifts low high) high)) ∙ sym (child-under prefix low high (tree_at level s num)) ∙ sym (keys-here (tree_at level s num) (prefix ++ low) (prefix ++ high)))
       ∙ keys-hold (tree_at level s num) (prefix ++ low) (prefix ++ high) c.tree
 
+  pub child-holds : every (holds (prefix ++ low) (prefix ++ high)) (under prefix (child_paths level s num low high)) ≡ true
+  unfolding child_paths
+  child-holds =
+      ap (λ ks. every (holds (prefix ++ low) (prefix ++ high)) ks) (sym (under-under prefix (shared low high) (keys_here (tree_at level s num) (drop (lifts low high) high))))
+      ∙ all_hold
+
   child-ready : NodeReady s (prefix ++ shared low high) (drop (lifts low high) high) level num
   unfolding lifts
   child-ready =
@@ -79,46 +74,43 @@ module _ (s prefix low high : List ℕ) (level num : ℕ) (c : ChildReady s pref
             ∙ c.tree;
       }
 
-  module _ (k : ℕ) (ek : k ≡ length (shared low high)) (l : PathBuffer) (el : buffer_is l ≡ fitted (prefix ++ take (k - 0) (drop 0 low))) where
-    front-shared : take (k - 0) (drop 0 low) ≡ shared low high
+  module _ (k : ℕ) (ek : k ≡ length (shared low high)) where
+    front-shared : take k low ≡ shared low high
     front-shared =
-        front-is k low ∙ ap (λ z. take k z) (sym (begins-split (shared low high) low (shared-left low high)))
+        ap (λ z. take k z) (sym (begins-split (shared low high) low (shared-left low high)))
         ∙ take_at (shared low high) (drop (length (shared low high)) low) k (sym ek)
 
-    lifted-is : buffer_is l ≡ fitted (prefix ++ shared low high)
-    lifted-is = el ∙ ap (λ z. fitted (prefix ++ z)) front-shared
-
     -- a prefix that is too long for any path
-    pub long-empty : 64 < l.len → child_paths level s num low high ≡ []
+    pub long-empty : none ≡ fitted (prefix ++ take k low) → child_paths level s num low high ≡ []
     unfolding child_paths under
     long-empty h =
-        rw (no-paths (keys_here (tree_at level s num) (drop (lifts low high) high)) (fitted-not l (prefix ++ shared low high) lifted-is h) all_hold)
+        rw (no-paths (keys_here (tree_at level s num) (drop (lifts low high) high)) (fitted-long (prefix ++ shared low high) (h ∙ ap (λ z. fitted (prefix ++ z)) front-shared)) all_hold)
 
-    module _ (fit : l.len ≤ 64) where
-      prefix-is : take (l.len - 0) (drop 0 l.bytes) ≡ prefix ++ shared low high
-      prefix-is = front-is l.len l.bytes ∙ fitted-held l (prefix ++ shared low high) lifted-is fit
+    module _ (l : List ℕ) (el : some l ≡ fitted (prefix ++ take k low)) where
+      prefix-is : l ≡ prefix ++ shared low high
+      prefix-is = fitted-is l (prefix ++ shared low high) (el ∙ ap (λ z. fitted (prefix ++ z)) front-shared)
 
       high_is : take (length high - k) (drop k high) ≡ drop (lifts low high) high
       unfolding lifts
       high_is = part-rest k high ∙ ap (λ z. drop z high) ek
 
-      pub enters-ready : NodeReady s (take (l.len - 0) (drop 0 l.bytes)) (take (length high - k) (drop k high)) level num
-      enters-ready =
-          subst (λ (y : List ℕ). NodeReady s y (take (length high - k) (drop k high)) level num) (sym prefix-is)
+      pub enters-ready : (y : List ℕ) → y ≡ l → NodeReady s y (take (length high - k) (drop k high)) level num
+      enters-ready y e =
+          subst (λ (y : List ℕ). NodeReady s y (take (length high - k) (drop k high)) level num) (sym (e ∙ prefix-is))
           (subst (λ (h : List ℕ). NodeReady s (prefix ++ shared low high) h level num) (sym high_is) child-ready)
 
-      pub entered-is : under (take (l.len - 0) (drop 0 l.bytes)) (keys_here (tree_at level s num) (take (length high - k) (drop k high))) ≡ under prefix (child_paths level s num low high)
+      pub entered-is : (y : List ℕ) → y ≡ l → under y (keys_here (tree_at level s num) (take (length high - k) (drop k high))) ≡ under prefix (child_paths level s num low high)
       unfolding child_paths
-      entered-is =
-          ap₂ (λ y h. under y (keys_here (tree_at level s num) h)) prefix-is high_is
+      entered-is y e =
+          ap₂ (λ y h. under y (keys_here (tree_at level s num) h)) (e ∙ prefix-is) high_is
           ∙ under-under prefix (shared low high) (keys_here (tree_at level s num) (drop (lifts low high) high))
 
 -- 3. A node: its children are ready, and its paths are those of its entries.
-branches-first : (s : List ℕ) (level : ℕ) (prefix hi : List ℕ) (k : Branch) (ks : List Branch) → BranchesReady s level prefix hi (k ∷ ks) → ChildReady s prefix k.pivot (branch_high hi ks) level k.number
+pub branches-first : (s : List ℕ) (level : ℕ) (prefix hi : List ℕ) (k : Branch) (ks : List Branch) → BranchesReady s level prefix hi (k ∷ ks) → ChildReady s prefix k.pivot (branch_high hi ks) level k.number
 unfolding BranchesReady
 branches-first s level prefix hi k ks h = h.0
 
-branches-later : (s : List ℕ) (level : ℕ) (prefix hi : List ℕ) (k : Branch) (ks : List Branch) → BranchesReady s level prefix hi (k ∷ ks) → BranchesReady s level prefix hi ks
+pub branches-later : (s : List ℕ) (level : ℕ) (prefix hi : List ℕ) (k : Branch) (ks : List Branch) → BranchesReady s level prefix hi (k ∷ ks) → BranchesReady s level prefix hi ks
 unfolding BranchesReady
 branches-later s level prefix hi k ks h = h.1
 
@@ -238,77 +230,15 @@ module _ (s prefix hi : List ℕ) (level num : ℕ) (n : NodeReady s prefix hi l
       subst (λ (ks : List Branch). BranchesReady s (level - 1) prefix hi ks) (sym b)
       (forest-ready s (level - 1) prefix (prefix ++ n.lo) hi f.x.branches n.whole f.branches z)
 
--- 4. A run of children: the child in hand, and those among the entries es that are left.
-child-path : (e : Entry) (i : ℕ) (p : Place) (s : List ℕ) → branch_is e ≡ found.Branch.Of i p → path_of (entry_in s e) ≡ []
-unfolding branch_is path_of
-child-path (Entry.Pair q v) i p s h = let z : ◌≡◌ {A = ℕ} 0 1 = cc in absurd (omega arith)
-child-path (Entry.Child j q) i p s h = refl
-child-path (Entry.Message m) i p s h = let z : ◌≡◌ {A = ℕ} 0 1 = cc in absurd (omega arith)
+-- 4. A node, by what the readers list.
+module _ (s prefix hi : List ℕ) (level num : ℕ) (n : NodeReady s prefix hi level num) (es : List defined.Entry) (q : es ≡ listing s num) where
+  pub leaf-is : level ≤ 1 → paths_of es ≡ keys_here (tree_at level s num) hi
+  leaf-is l = ap (λ l. paths_of l) q ∙ sym (leaf-paths s prefix hi level num n l)
 
-child-paths : (e : Entry) (i : ℕ) (p : Place) (s : List ℕ) (es ts : List defined.Entry) → es ≡ entry_in s e ∷ ts → branch_is e ≡ found.Branch.Of i p → paths_of es ≡ paths_of ts
-unfolding paths_of
-child-paths e i p s es ts q h = ap (λ l. paths_of l) q ∙ ap (λ l. l ++ paths_of ts) (child-path e i p s h)
+  module _ (two : 2 ≤ level) (ks : List Branch) (among : ks ≡ branches_among es) where
+    pub children-are : run_paths (level - 1) s hi ks es ≡ keys_here (tree_at level s num) hi
+    children-are =
+        ap₂ (λ l m. run_paths (level - 1) s hi l m) (among ∙ ap (λ l. branches_among l) q) q ∙ sym (interior-paths s prefix hi level num n two)
 
-run-same : (level : ℕ) (s hi : List ℕ) (ks : List image.Branch) (es ts : List defined.Entry) → paths_of es ≡ paths_of ts → run_paths level s hi ks es ≡ run_paths level s hi ks ts
-unfolding run_paths
-run-same level s hi ks es ts e = ap (λ l. keys_branches (image.forest_of (λ j. tree_at level s j) ks) hi ++ l) e
-
-module _ (s prefix hi : List ℕ) (level num : ℕ) (low : Place) (es : List defined.Entry) (ready : BranchesReady s level prefix hi (branch num (part s low) ∷ branches_among es)) where
-  pub last-ready : branches_among es ≡ [] → ChildReady s prefix (part s low) hi level num
-  unfolding branch_high
-  last-ready q = branches-first s level prefix hi (branch num (part s low)) [] (subst (λ (ks : List image.Branch). BranchesReady s level prefix hi (branch num (part s low) ∷ ks)) q ready)
-
-  module _ (e : Entry) (i : ℕ) (p : Place) (ts : List defined.Entry) (q : es ≡ entry_in s e ∷ ts) (h : branch_is e ≡ found.Branch.Of i p) where
-    more : branches_among es ≡ branch i (part s p) ∷ branches_among ts
-    more = branches-more e i p s es ts q h
-
-    ready-more : BranchesReady s level prefix hi (branch num (part s low) ∷ branch i (part s p) ∷ branches_among ts)
-    ready-more = subst (λ (ks : List image.Branch). BranchesReady s level prefix hi (branch num (part s low) ∷ ks)) more ready
-
-    pub inner-ready : ChildReady s prefix (part s low) (part s p) level num
-    unfolding branch_high
-    inner-ready = branches-first s level prefix hi (branch num (part s low)) (branch i (part s p) ∷ branches_among ts) ready-more
-
-    pub later-ready : BranchesReady s level prefix hi (branch i (part s p) ∷ branches_among ts)
-    later-ready = branches-later s level prefix hi (branch num (part s low)) (branch i (part s p) ∷ branches_among ts) ready-more
-
-    pub run-splits : run_paths level s hi (branch num (part s low) ∷ branches_among es) es
-        ≡ child_paths level s num (part s low) (part s p) ++ run_paths level s hi (branch i (part s p) ∷ branches_among ts) ts
-    run-splits =
-        ap (λ ks. run_paths level s hi (branch num (part s low) ∷ ks) es) more
-        ∙ run-same level s hi (branch num (part s low) ∷ branch i (part s p) ∷ branches_among ts) es ts (child-paths e i p s es ts q h)
-        ∙ run_more level s hi (branch num (part s low)) (branch i (part s p)) (branches_among ts) ts
-
--- 5. A node, by what the readers list: L is the entries from its cursor on.
-no-branches : (level : ℕ) (s hi : List ℕ) (es : List defined.Entry) → run_paths level s hi [] es ≡ paths_of es
-unfolding run_paths image.forest_of keys_branches
-no-branches level s hi es = refl
-
-module _ (s prefix hi : List ℕ) (level num : ℕ) (n : NodeReady s prefix hi level num) (c : Cursor) (ec : c ≡ cursor_of s num) where
-  abbrev L : List defined.Entry
-  L = listed s c.at c.end
-
-  same-list : L ≡ listing s num
-  same-list = ap (λ x. listed s x.at x.end) ec
-
-  pub leaf-is : level ≤ 1 → paths_of L ≡ keys_here (tree_at level s num) hi
-  leaf-is l = ap (λ es. paths_of es) same-list ∙ sym (leaf-paths s prefix hi level num n l)
-
-  module _ (two : 2 ≤ level) where
-    whole : run_paths (level - 1) s hi (branches_among L) L ≡ keys_here (tree_at level s num) hi
-    whole = ap (λ es. run_paths (level - 1) s hi (branches_among es) es) same-list ∙ sym (interior-paths s prefix hi level num n two)
-
-    pub childless-is : branches_among L ≡ [] → paths_of L ≡ keys_here (tree_at level s num) hi
-    childless-is q = sym (no-branches (level - 1) s hi L) ∙ ap (λ ks. run_paths (level - 1) s hi ks L) (sym q) ∙ whole
-
-    module _ (e : Entry) (i : ℕ) (p : Place) (ts : List defined.Entry) (q : L ≡ entry_in s e ∷ ts) (h : branch_is e ≡ found.Branch.Of i p) where
-      pub node-ready : BranchesReady s (level - 1) prefix hi (branch i (part s p) ∷ branches_among ts)
-      node-ready =
-          subst (λ (ks : List image.Branch). BranchesReady s (level - 1) prefix hi ks) (ap (λ es. branches_among es) (sym same-list) ∙ branches-more e i p s L ts q h)
-          (branches-ready s prefix hi level num n two)
-
-      pub children-are : run_paths (level - 1) s hi (branch i (part s p) ∷ branches_among ts) ts ≡ keys_here (tree_at level s num) hi
-      children-are =
-          sym (run-same (level - 1) s hi (branch i (part s p) ∷ branches_among ts) L ts (child-paths e i p s L ts q h))
-          ∙ ap (λ ks. run_paths (level - 1) s hi ks L) (sym (branches-more e i p s L ts q h))
-          ∙ whole
+    pub children-ready : BranchesReady s (level - 1) prefix hi ks
+    children-ready = subst (λ (l : List Branch). BranchesReady s (level - 1) prefix hi l) (sym (among ∙ ap (λ l. branches_among l) q)) (branches-ready s prefix hi level num n two)

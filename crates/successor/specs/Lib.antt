@@ -1,12 +1,8 @@
-pub mod Buffer
-pub mod BufferSteps
 pub mod Joined
 pub mod Tests
 pub mod Walk
-pub mod Suffixes
+pub mod Visited
 pub mod Present
 pub mod Candidates
-pub mod WalkLaws
-pub mod Steps
-pub mod NodeSteps
-pub mod Callers
+pub mod InHand
+pub mod Sought

@@ -2,11 +2,11 @@
 -- unfit for a shape; all are for the dead one.
 -- Relies on: the walk of laws/Reading (Seek, SeekHere), the root of lookup.
 use Rattle.std.specs.Prelude.{ℕ, ◌<◌, ◌≤◌, ◌≡◌, refl, List, [], ◌∷◌, Bool, true, false, ◌&&◌, length, drop}
-use Rattle.image.specs.Prelude.{sym, ap, subst, ◌∙◌, none, some, arith}
+use Rattle.image.specs.Prelude.{sym, ap, subst, ◌∙◌, Option, none, some, arith}
 use Rattle.image.specs.Bytes.{before, begins, shared, u16}
 use Rattle.image.specs.Path.{well_formed, owns}
 use Rattle.image.specs.Table.{Row, is_some, least_after, leads, rising}
-use Rattle.image.specs.Image.{tree_at, tree_of}
+use Rattle.image.specs.Image.{tree_of}
 use Rattle.image.specs.Meaning.{rows}
 use Rattle.image.specs.Sound.{sound, sound_tree, table_of, lowest, highest}
 use Rattle.octets.specs.Order.{and_left, and_right}
@@ -14,8 +14,10 @@ use Rattle.laws.specs.LookupTable.{means-table}
 use Rattle.laws.specs.Next.{Fits, least-yes, least-far, least-early, later-fits, nil-none, first-present}
 use Rattle.laws.specs.Filter.{keep}
 use Rattle.path.specs.Shape.{Shape, dead, goes_on, feed-dead}
+use Rattle.path.specs.Fed.{shape_is}
+use Rattle.path.specs.declared.Shape as path
 use Rattle.laws.specs.Formed.{row-formed}
-use Rattle.laws.specs.Reading.Seek.{holds, present, walk, walk_same}
+use Rattle.laws.specs.Reading.Seek.{holds, present, walk_same}
 use Rattle.laws.specs.Reading.SeekHere.{under, keys_here, next_here}
 use Rattle.lookup.specs.Root.{starts, root_is, root-usable}
 use Rattle.successor.specs.Walk.{is_present, walk_in, NodeReady, unfit, is_sought}
@@ -55,13 +57,13 @@ module _ (s : List ℕ) (root levels : ℕ) (e : sound s ≡ true) (a : root ≡
         tree = ap (λ t. sound_tree t lowest highest) (root_is s root levels e a b) ∙ (starts s e).tree;
       }
 
-  pub root-walk : (sh : Shape) (below since : List ℕ) → walk_in s sh below since none (under [] (keys_here (tree_at levels s root) highest)) ≡ least_after below since (keep (unfit sh below) (table_of s))
-  unfolding walk_in is_sought table_of
-  root-walk sh below since =
-      ap (λ t. walk (λ k. unfit sh below k && is_present s k) below since none (under [] (keys_here t highest))) (root_is s root levels e a b)
-      ∙ walk_same (λ k. unfit sh below k && is_present s k) (λ k. unfit sh below k && present k (rows (tree_of s) lowest highest)) below since
-      (λ k. ap (λ x. unfit sh below k && x) (present-is s e k)) none (under [] (keys_here (tree_of s) highest))
-      ∙ next_here (unfit sh below) below since (tree_of s) highest (starts s e).tree
+-- the walk over all its paths
+pub root-walk : (s : List ℕ) → sound s ≡ true → (sh : Shape) (below since : List ℕ) → walk_in s sh below since none (under [] (keys_here (tree_of s) highest)) ≡ least_after below since (keep (unfit sh below) (table_of s))
+unfolding walk_in is_sought table_of
+root-walk s e sh below since =
+    walk_same (λ k. unfit sh below k && is_present s k) (λ k. unfit sh below k && present k (rows (tree_of s) lowest highest)) below since
+    (λ k. ap (λ x. unfit sh below k && x) (present-is s e k)) none (under [] (keys_here (tree_of s) highest))
+    ∙ next_here (unfit sh below) below since (tree_of s) highest (starts s e).tree
 
 -- every path is unfit for the dead shape
 dead-unfit : (below k : List ℕ) → unfit dead below k ≡ true
@@ -72,6 +74,10 @@ pub dead_keeps : (below : List ℕ) (t : List Row) → keep (unfit dead below) t
 unfolding keep
 dead_keeps below [] = refl
 dead_keeps below (r ∷ t) = rw (dead-unfit below r.key) (ap (λ l. r ∷ l) (dead_keeps below t))
+
+pub next-any : (below after : List ℕ) (t : List Row) (r : Option (List ℕ)) → r ≡ least_after below after (keep (unfit (shape_is path.Shape.Dead) below) t) → r ≡ least_after below after t
+unfolding shape_is
+next-any below after t r e = e ∙ ap (least_after below after) (dead_keeps below t)
 
 -- what the least path is: present, below p, greater than q
 least_fits : (p q : List ℕ) (t : List Row) (k : List ℕ) → rising t ≡ true → least_after p q t ≡ some k → Fits p q t k

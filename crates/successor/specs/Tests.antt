@@ -8,21 +8,8 @@ use Rattle.path.specs.Fed.{Shape, shape_is}
 use Rattle.path.specs.Reads.{goes-dead}
 use Rattle.laws.specs.Reading.Far.{far_from}
 use Rattle.laws.specs.Reading.Seek.{better, wanted}
-use Rattle.node.specs.declared.PathBuffer.{PathBuffer}
 use Rattle.lookup.specs.Look.{part-rest}
 use Rattle.successor.specs.Walk.{unfit}
-use Rattle.successor.specs.Buffer.{buffer_is}
-use Rattle.successor.specs.BufferSteps.{held, empty-handed}
-
-pub better-none : (p : PathBuffer) (k : List ℕ) → 64 < p.len → true ≡ better (buffer_is p) k
-unfolding better
-better-none p k h = rw (empty-handed p h)
-
-pub better-some : (p : PathBuffer) (k : List ℕ) (r : Bool) → p.len ≤ 64 → r ≡ before k (take (p.len - 0) (drop 0 p.bytes)) → r ≡ better (buffer_is p) k
-unfolding better
-better-some p k r h e =
-    let z : p.len - 0 ≡ p.len = omega arith in
-    rw (held p h) (rw z at e)
 
 -- three tests, and four, of which some are known
 three-false : (x y z : Bool) → x ≡ false → false ≡ x && y && z

@@ -3,13 +3,14 @@
 use Rattle.std.specs.Prelude.{ℕ, ◌≡◌, List, [], ◌∷◌, ◌++◌, Bool, true, ◌&&◌, not, length, drop}
 use Rattle.image.specs.Prelude.{Option}
 use Rattle.image.specs.Bytes.{shared}
-use Rattle.image.specs.Entry.{puts, drops, clears, Entry, pair, child, message}
+use Rattle.image.specs.Entry.{Entry}
 use Rattle.image.specs.Table.{is_some}
 use Rattle.image.specs.Image.{Branch, nodes_of, forest_of, tree_at}
 use Rattle.image.specs.Sound.{sound, sound_tree, value_in}
 use Rattle.path.specs.Shape.{Shape, goes_on}
 use Rattle.laws.specs.Reading.Relative.{lifts, branch_high, usable}
 use Rattle.laws.specs.Reading.Seek.{try, walk}
+use Rattle.node.specs.Lent.{path_of}
 use Rattle.laws.specs.Reading.SeekHere.{under, keys_here, keys_branches}
 
 -- a path is present in the image
@@ -31,14 +32,7 @@ try_in s sh below after best k = try (is_sought s sh below) below after best k
 unfoldable pub walk_in : List ℕ → Shape → List ℕ → List ℕ → Option (List ℕ) → List (List ℕ) → Option (List ℕ)
 walk_in s sh below after best ks = walk (is_sought s sh below) below after best ks
 
--- the path that an entry may hold a value for: of a pair and of a put
-unfoldable pub path_of : Entry → List (List ℕ)
-path_of (pair k v) = k ∷ []
-path_of (child i k) = []
-path_of (message (puts k v)) = k ∷ []
-path_of (message (drops k)) = []
-path_of (message (clears k)) = []
-
+-- the paths that entries name
 unfoldable pub paths_of : List Entry → List (List ℕ)
 paths_of [] = []
 paths_of (e ∷ es) = path_of e ++ paths_of es

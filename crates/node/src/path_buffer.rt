@@ -1,0 +1,44 @@
+// A path, or the beginning of one, held by value: at most 64 bytes, as a path has. Contracts see it as the list of its bytes.
+// Relies on octets and on the longest path of image.
+ghost use Rattle.std.specs.Prelude.{◌≡◌, ◌≤◌, ◌++◌, List, ℕ, take, length};
+ghost use Rattle.node.specs.Fitted.{fitted, buffer_is};
+
+use std::marker::Model;
+
+#[derive(Drop)]
+pub struct PathBuffer {
+    bytes: [u8; 64],
+    len: usize,
+}
+
+impl Model for PathBuffer {
+    ghost Value = { List ℕ };
+
+    ghost view = { λ p. take p.len p.bytes };
+
+    ghost invariant = { λ p. p.len ≤ 64 };
+}
+
+impl PathBuffer {
+    // The path front ++ back; none where it is too long for any path.
+    pub fn join(front: &[u8], back: &[u8]) -> Option<PathBuffer>
+        ensures { buffer_is result ≡ fitted (front.now ++ back.now) }
+    {
+        let at = front.len();
+        let len = at + back.len();
+        if image::PATH_LIMIT < len {
+            return None;
+        }
+        let mut bytes = [0u8; 64];
+        octets::copy_at(&mut bytes, 0, front);
+        octets::copy_at(&mut bytes, at, back);
+        Some(PathBuffer { bytes, len })
+    }
+
+    pub fn as_slice(&self) -> &[u8]
+        ensures held { result.now ≡ self.now }
+        ensures short { length self.now ≤ 64 }
+    {
+        &self.bytes[..self.len]
+    }
+}

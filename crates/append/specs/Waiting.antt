@@ -1,7 +1,7 @@
 -- How many messages wait in the root of a sound image, and that the walk over its entries counts them.
 -- Relies on lookup's account of a node that a reader finds.
-use Rattle.std.specs.Prelude.{ℕ, ◌+◌, ◌-◌, ◌*◌, ◌<◌, ◌≤◌, ◌≡◌, refl, List, [], ◌∷◌, true, length}
-use Rattle.image.specs.Prelude.{sym, ap, subst, ◌∙◌, Option, none, some, Option·some-injective, Option·none-ne-some, arith}
+use Rattle.std.specs.Prelude.{ℕ, ◌-◌, ◌<◌, ◌≤◌, ◌≡◌, refl, List, [], ◌∷◌, true, length}
+use Rattle.image.specs.Prelude.{sym, ap, ◌∙◌, Option, none, some, Option·some-injective, Option·none-ne-some, arith}
 use Rattle.image.specs.Bytes.{u16}
 use Rattle.image.specs.Entry as defined
 use Rattle.image.specs.Image.{Tree, unread, leaf, interior, Inside, nodes_of, header_of, message_then, messages_of, no_branches, branch_then, inside_of, tree_at, tree_of}

@@ -1,10 +1,10 @@
 -- A change of one path as a message at the root: the message, its size, and when the table has a place for it.
-use Rattle.std.specs.Prelude.{ℕ, ◌+◌, ◌≤◌, ◌≡◌, refl, List, [], ◌∷◌, Bool, true, false, ◌||◌, cond, length, ltb}
-use Rattle.image.specs.Prelude.{sym, ap, ◌∙◌, false≢true, none, arith, ltb-true}
+use Rattle.std.specs.Prelude.{ℕ, ◌≤◌, ◌≡◌, refl, List, [], ◌∷◌, Bool, true, false, ◌||◌, cond, length, ltb}
+use Rattle.image.specs.Prelude.{sym, ap, subst, ◌∙◌, false≢true, none, arith, ltb-true}
 use Rattle.packed.specs.Form.Packed.{pair_limit}
 use Rattle.image.specs.Bytes.{same, before}
-use Rattle.image.specs.Path.{well_formed, value_fits, below, value_limit}
-use Rattle.image.specs.Entry.{Message, puts, drops, clears}
+use Rattle.image.specs.Path.{well_formed, value_fits, below}
+use Rattle.image.specs.Entry.{Message, puts, drops, clears, message}
 use Rattle.image.specs.Table.{Row, find, is_some, with_row, without, without_below, leads, rising}
 use Rattle.image.specs.Meaning.{apply}
 use Rattle.image.specs.Sound.{sound_message, lowest, highest}
@@ -12,43 +12,48 @@ use Rattle.octets.specs.Order.{and_right, before-not-same, before-total}
 use Rattle.laws.specs.Rising.{find-leads}
 use Rattle.packed.specs.Form.Leaves.{value_length}
 use Rattle.append.specs.Laws.RootMessage.{put-sound, drop-sound, clear-sound}
-use Rattle.edit.specs.declared.Change.{Change}
+use Rattle.laws.specs.Encode.{bytes_of}
+use Rattle.laws.specs.Upkeep.Size.{put-size, drop-size, clear-size}
 use Rattle.laws.specs.Tables.{with-length}
 use Rattle.laws.specs.Follow.{formed-length}
 
-unfoldable pub message_of : Change → List ℕ → List ℕ → Message
-message_of Change.Put p v = puts p v
-message_of Change.Drop p v = drops p
-message_of Change.Clear p v = clears p
+-- a message whose entry is no longer than a pair may be
+abbrev pub Sized : Message → Type 0
+Sized m = length (bytes_of (message m)) ≤ pair_limit
 
--- the bytes of its entry
-unfoldable pub size_of : Change → ℕ → ℕ → ℕ
-size_of Change.Put p v = 6 + p + v
-size_of Change.Drop p v = 4 + p
-size_of Change.Clear p v = 4 + p
+-- what a call has asked before it changes the table t of a store of n nodes by a message: questions 3, 4 and 10
+pub record Allowed (m : Message) (t : List Row) (n : ℕ) : Type 0 where
+  pub formed : sound_message lowest highest m ≡ true
+  pub sized : Sized m
+  pub place : (p v : List ℕ) → m ≡ puts p v → is_some (find p t) || ltb (length t) n ≡ true
 
--- what a call has asked before it changes the table t of a store of n nodes: questions 3, 4 and 10
-pub record Allowed (c : Change) (p v : List ℕ) (t : List Row) (n : ℕ) : Type 0 where
-  pub formed : well_formed p ≡ true
-  pub fits : value_fits v ≡ true
-  pub place : c ≡ Change.Put → is_some (find p t) || ltb (length t) n ≡ true
-
-pub message-sound : (c : Change) (p v : List ℕ) → well_formed p ≡ true → value_fits v ≡ true → sound_message lowest highest (message_of c p v) ≡ true
-unfolding message_of
-message-sound Change.Put p v e f = put-sound p v e f
-message-sound Change.Drop p v e f = drop-sound p e
-message-sound Change.Clear p v e f = clear-sound p e
-
-pub size_small : (c : Change) (p v : List ℕ) → well_formed p ≡ true → value_fits v ≡ true → (size_of c (length p) (length v) ≤ pair_limit) × (length p ≤ 64) × (length v ≤ value_limit)
-size_small c p v e f =
+pub put-allowed : (p v : List ℕ) (t : List Row) (n : ℕ) → well_formed p ≡ true → value_fits v ≡ true → is_some (find p t) || ltb (length t) n ≡ true → Allowed (puts p v) t n
+put-allowed p v t n e f h =
     let a = formed-length p e in
     let b = value_length v f in
-    (by-change c, a, b)
+    let z = put-size p v in
+    record { formed = put-sound p v e f; sized = omega arith; place = λ q w g. go q w g }
   where
-    by-change : (c : Change) → size_of c (length p) (length v) ≤ pair_limit
-    by-change Change.Put = let a = formed-length p e in let b = value_length v f in unfold size_of in omega arith
-    by-change Change.Drop = let a = formed-length p e in unfold size_of in omega arith
-    by-change Change.Clear = let a = formed-length p e in unfold size_of in omega arith
+    go : (q w : List ℕ) → puts p v ≡ puts q w → is_some (find q t) || ltb (length t) n ≡ true
+    go q w g = let z : p ≡ q = cc in subst (λ x. is_some (find x t) || ltb (length t) n ≡ true) z h
+
+no-put-drops : (p q w : List ℕ) → drops p ≡ puts q w → ⊥
+no-put-drops p q w g = let z : ◌≡◌ {A = ℕ} 0 1 = cc in omega arith
+
+no-put-clears : (p q w : List ℕ) → clears p ≡ puts q w → ⊥
+no-put-clears p q w g = let z : ◌≡◌ {A = ℕ} 0 1 = cc in omega arith
+
+pub drop-allowed : (p : List ℕ) (t : List Row) (n : ℕ) → well_formed p ≡ true → Allowed (drops p) t n
+drop-allowed p t n e =
+    let a = formed-length p e in
+    let z = drop-size p in
+    record { formed = drop-sound p e; sized = omega arith; place = λ q w g. absurd (no-put-drops p q w g) }
+
+pub clear-allowed : (p : List ℕ) (t : List Row) (n : ℕ) → well_formed p ≡ true → Allowed (clears p) t n
+clear-allowed p t n e =
+    let a = formed-length p e in
+    let z = clear-size p in
+    record { formed = clear-sound p e; sized = omega arith; place = λ q w g. absurd (no-put-clears p q w g) }
 
 over-length : (p v : List ℕ) (t : List Row) → rising t ≡ true → is_some (find p t) ≡ true → length (with_row p v t) ≤ length t
 unfolding with_row find is_some rising leads
@@ -88,13 +93,13 @@ cleared-length p (r ∷ t) = go (below r.key p) (cleared-length p t)
     go false h = omega arith
 
 -- so the table after an allowed change has at most n rows
-pub few-after : (c : Change) (p v : List ℕ) (t : List Row) (n : ℕ) → rising t ≡ true → length t ≤ n → Allowed c p v t n → length (apply [] (message_of c p v) t) ≤ n
-unfolding message_of apply
-few-after Change.Put p v t n r h a = go (is_some (find p t)) refl (ltb (length t) n) refl (a.place refl)
+pub few-after : (m : Message) (t : List Row) (n : ℕ) → rising t ≡ true → length t ≤ n → Allowed m t n → length (apply [] m t) ≤ n
+unfolding apply
+few-after (puts p v) t n r h a = go (is_some (find p t)) refl (ltb (length t) n) refl (a.place p v refl)
   where
     go : (x : Bool) → is_some (find p t) ≡ x → (y : Bool) → ltb (length t) n ≡ y → is_some (find p t) || ltb (length t) n ≡ true → length (with_row p v t) ≤ n
     go true e y f q = omega (arith, over-length p v t r e)
     go false e true f q = omega (arith, with-length p v t, ltb-true (length t) n f)
     go false e false f q = let z : false ≡ true = rw (e, f) at q in absurd (false≢true z)
-few-after Change.Drop p v t n r h a = omega (arith, without-length p t)
-few-after Change.Clear p v t n r h a = omega (arith, cleared-length p t)
+few-after (drops p) t n r h a = omega (arith, without-length p t)
+few-after (clears p) t n r h a = omega (arith, cleared-length p t)

@@ -1,12 +1,10 @@
 -- A free node, found by the marks of the check.
-use Rattle.std.specs.Prelude.{ℕ, ◌<◌, ◌≤◌, ◌≡◌, refl, List, get_or}
+use Rattle.std.specs.Prelude.{ℕ, ◌<◌, ◌≤◌, ◌≡◌, List, get_or, Option, MatchOption}
 
--- r is a number from 1 up to, not including, n whose byte is 0, or it is 0
-pub record FirstFree (seen : List ℕ) (n r : ℕ) : Type 0 where
-  pub free : (r ≡ 0 → ⊥) → (1 ≤ r) × (r < n) × (get_or seen r 0 ≡ 0)
+-- a number from 1 up to, not including, n whose byte is 0
+abbrev pub Unmarked : List ℕ → ℕ → ℕ → Type 0
+Unmarked seen n i = (1 ≤ i) × (i < n) × (get_or seen i 0 ≡ 0)
 
-pub free-found : (seen : List ℕ) (n i : ℕ) → 1 ≤ i → i < n → get_or seen i 0 ≡ 0 → FirstFree seen n i
-free-found seen n i low high e = record { free = λ h. (low, high, e) }
-
-pub free-none : (seen : List ℕ) (n : ℕ) → FirstFree seen n 0
-free-none seen n = record { free = λ h. absurd (h refl) }
+-- such a number, where one is given
+abbrev pub FirstFree : List ℕ → ℕ → Option ℕ → Type 0
+FirstFree seen n r = MatchOption r Unit (λ i. Unmarked seen n i)

@@ -1,10 +1,11 @@
 -- How many rows a table has after one change, from whether it has the path.
 use Rattle.std.specs.Prelude.{ℕ, suc, ◌+◌, ◌-◌, ◌≤◌, ◌≡◌, refl, List, [], ◌∷◌, Bool, true, false, cond, ◌||◌, length, eqb, leb, ltb}
-use Rattle.image.specs.Prelude.{sym, ap, ◌∙◌, Option, none, some, arith, eqb-true, le-leb}
+use Rattle.octets.specs.Cap.{cap, cap-small}
+use Rattle.image.specs.Prelude.{sym, ap, subst, ◌∙◌, Option, none, some, arith, eqb-true, le-leb}
 use Rattle.image.specs.Bytes.{same, before, u16}
-use Rattle.image.specs.Entry.{Message}
+use Rattle.image.specs.Entry.{Message, puts, drops}
 use Rattle.image.specs.Table.{Row, find, with_row, without, leads, rising, is_some}
-use Rattle.image.specs.Image.{whole_nodes, header_of}
+use Rattle.image.specs.Image.{whole_nodes, nodes_of, header_of}
 use Rattle.image.specs.Meaning.{apply}
 use Rattle.image.specs.Sound.{sound, value_in, table_of}
 use Rattle.octets.specs.Order.{and_left, and_right, same-eq, before-not-same, before-total}
@@ -14,18 +15,26 @@ use Rattle.laws.specs.Rising.{find-leads}
 use Rattle.laws.specs.LookupTable.{means-table}
 use Rattle.laws.specs.Follow.{table-rises}
 use Rattle.node.specs.Whole.{Whole, whole_parts}
-use Rattle.node.specs.Places.{part}
-use Rattle.node.specs.declared.Place.{Place}
-use Rattle.node.specs.declared.search.Found.{Found}
-use Rattle.node.specs.Search.Pairs.{Finds, found_in}
+use Rattle.std.specs.Prelude.{Option as Maybe, None, Some, MatchOption}
+use Rattle.std.specs.Borrow.{Bor}
+use Rattle.node.specs.Lent.{value_is}
 use Rattle.live_count.specs.KeepLaws.{with-length}
 use Rattle.soundness.specs.Judged.{told-live}
-use Rattle.edit.specs.declared.Change.{Change}
-use Rattle.edit.specs.Change.{message_of}
 
--- r is the number of rows after a message; or it is more than 65,535, and tells nothing
-unfoldable pub Known : Message → List Row → ℕ → Type 0
-Known m t r = r ≤ 65535 → r ≡ length (apply [] m t)
+-- a count that is known is this one
+abbrev pub Counts : Maybe ℕ → ℕ → Type 0
+Counts known k = MatchOption known Unit (λ r. r ≡ k)
+
+pub counts-some : (known : Maybe ℕ) (k r : ℕ) → Counts known k → known ≡ Some r → r ≡ k
+counts-some known k r h e = subst (λ o. Counts o k) e h
+
+-- a store has at most 1,024 paths: such a count is shown as it is
+pub few-cap : (len k r : ℕ) → whole_nodes len ≡ true → k ≤ nodes_of len → r ≡ k → r ≡ cap k
+few-cap len k r e h q = let p : Whole len = whole_parts len e in q ∙ sym (cap-small k (omega (arith, p.few)))
+
+-- the number of rows after a message, where it is known
+abbrev pub Known : Message → List Row → Maybe ℕ → Type 0
+Known m t known = Counts known (length (apply [] m t))
 
 -- r rows once the path p has a value, whichever
 unfoldable pub CountWith : List ℕ → List Row → ℕ → Type 0
@@ -69,55 +78,49 @@ without-one p (r ∷ t) x e f = go (same p r.key) refl (λ g. without-one p t x 
     go false k ih = rw k (ap suc (ih (sym (find-no p r t k) ∙ f)))
 
 -- each way out of the counts
-module _ (s : List ℕ) (whole : whole_nodes (length s) ≡ true) (ok : sound s ≡ true) (live : ℕ) (l : live ≡ u16 s 10) (p : List ℕ) (r : Found) (f : Finds s (value_in s p) r) where
+module _ (s : List ℕ) (whole : whole_nodes (length s) ≡ true) (ok : sound s ≡ true) (live : ℕ) (l : live ≡ u16 s 10) (p : List ℕ) (r : Maybe (Bor (List ℕ))) (f : value_is r ≡ value_in s p) where
   live-is : live ≡ length (table_of s)
   live-is =
       let parts : Whole (length s) = whole_parts (length s) whole in
       let right : eqb (header_of s).live (length (table_of s)) ≡ true = and_right (sound_but_live s) _ (sym (sound-live s) ∙ ok) in
       told-live s live (omega (arith, parts.filled, parts.enough)) l ∙ eqb-true (header_of s).live (length (table_of s)) right
 
-  there : (v : Place) → r ≡ Found.Value v → find p (table_of s) ≡ some (part s v)
-  unfolding found_in
-  there v e = sym (means-table s ok p) ∙ sym f.meant ∙ ap (found_in s) e
+  there : (v : Bor (List ℕ)) → r ≡ Some v → find p (table_of s) ≡ some v.now
+  there v e = sym (means-table s ok p) ∙ sym f ∙ ap value_is e
 
-  not_there : r ≡ Found.Nothing → find p (table_of s) ≡ none
-  unfolding found_in
-  not_there e = sym (means-table s ok p) ∙ sym f.meant ∙ ap (found_in s) e
+  not_there : r ≡ None → find p (table_of s) ≡ none
+  not_there e = sym (means-table s ok p) ∙ sym f ∙ ap value_is e
 
-  pub with-over : (v : Place) → r ≡ Found.Value v → CountWith p (table_of s) live
+  pub with-over : (v : Bor (List ℕ)) → r ≡ Some v → CountWith p (table_of s) live
   unfolding CountWith
-  with-over v e = λ x. live-is ∙ sym (over-same p x (table_of s) (part s v) (table-rises s ok) (there v e))
+  with-over v e = λ x. live-is ∙ sym (over-same p x (table_of s) v.now (table-rises s ok) (there v e))
 
-  pub with-new : r ≡ Found.Nothing → CountWith p (table_of s) (live + 1)
+  pub with-new : r ≡ None → CountWith p (table_of s) (live + 1)
   unfolding CountWith
   with-new e = λ x. let a = live-is in let b = with-length p x (table_of s) (not_there e) in omega arith
 
-  pub one-there : (v : Place) → r ≡ Found.Value v → 1 ≤ live
-  one-there v e = let a = live-is in let b = without-one p (table_of s) (part s v) (table-rises s ok) (there v e) in omega arith
+  pub one-there : (v : Bor (List ℕ)) → r ≡ Some v → 1 ≤ live
+  one-there v e = let a = live-is in let b = without-one p (table_of s) v.now (table-rises s ok) (there v e) in omega arith
 
-  pub without-it : (v : Place) → r ≡ Found.Value v → live - 1 ≡ length (without p (table_of s))
-  without-it v e = let a = live-is in let b = without-one p (table_of s) (part s v) (table-rises s ok) (there v e) in omega arith
+  pub without-it : (v : Bor (List ℕ)) → r ≡ Some v → live - 1 ≡ length (without p (table_of s))
+  without-it v e = let a = live-is in let b = without-one p (table_of s) v.now (table-rises s ok) (there v e) in omega arith
 
-  pub without-it-already : r ≡ Found.Nothing → live ≡ length (without p (table_of s))
+  pub without-it-already : r ≡ None → live ≡ length (without p (table_of s))
   without-it-already e = live-is ∙ sym (without-none p (table_of s) (not_there e))
 
 -- what a count says of a change
-pub known-put : (p v : List ℕ) (t : List Row) (r : ℕ) → CountWith p t r → Known (message_of Change.Put p v) t r
-unfolding Known CountWith message_of apply
-known-put p v t r f = λ h. f v
+pub known-put : (p v : List ℕ) (t : List Row) (r : ℕ) → CountWith p t r → Known (puts p v) t (Some r)
+unfolding CountWith apply
+known-put p v t r f = f v
 
-pub known-drop : (p v : List ℕ) (t : List Row) (r : ℕ) → r ≡ length (without p t) → Known (message_of Change.Drop p v) t r
-unfolding Known message_of apply
-known-drop p v t r e = λ h. e
-
-pub known-not : (m : Message) (t : List Row) → Known m t 65536
-unfolding Known
-known-not m t = λ h. absurd (omega arith)
+pub known-drop : (p : List ℕ) (t : List Row) (r : ℕ) → r ≡ length (without p t) → Known (drops p) t (Some r)
+unfolding apply
+known-drop p t r e = e
 
 -- the same, of the table after the change
-pub known-after : (m : Message) (t u : List Row) (k : ℕ) → Known m t k → u ≡ apply [] m t → k ≤ 65535 → k ≡ length u
-unfolding Known
-known-after m t u k f e h = f h ∙ ap length (sym e)
+pub known-after : (m : Message) (t u : List Row) (known : Maybe ℕ) → Known m t known → u ≡ apply [] m t → Counts known (length u)
+known-after m t u None f e = tt
+known-after m t u (Some k) f e = f ∙ ap length (sym e)
 
 -- question 10: the path is present or there are fewer than n paths, exactly where there are at most n once it has a value
 pub place-told : (p : List ℕ) (t : List Row) (n r : ℕ) → rising t ≡ true → length t ≤ n → CountWith p t r → leb r n ≡ is_some (find p t) || ltb (length t) n

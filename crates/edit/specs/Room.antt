@@ -1,6 +1,6 @@
 -- Room for a message at the root: what each step of the code leaves, and that after a rebuild there always is room.
-use Rattle.std.specs.Prelude.{ℕ, ◌+◌, ◌*◌, ◌/◌, ◌<◌, ◌≤◌, ◌≡◌, refl, List, Bool, true, false, ◌⊎◌, length, drop, get_or}
-use Rattle.image.specs.Prelude.{ap, ◌∙◌, false≢true, inl, inr, arith, le-leb}
+use Rattle.std.specs.Prelude.{ℕ, ◌+◌, ◌*◌, ◌/◌, ◌<◌, ◌≤◌, ◌≡◌, refl, List, Bool, true, false, ◌⊎◌, length, drop, get_or, Option, None, Some, MatchOption}
+use Rattle.image.specs.Prelude.{sym, ap, subst, ◌∙◌, inl, inr, arith, le-leb}
 use Rattle.image.specs.Bytes.{u16}
 use Rattle.image.specs.Image.{nodes_of, whole_nodes, tree_of}
 use Rattle.image.specs.Sound.{sound, table_of, is_in, numbers}
@@ -11,8 +11,9 @@ use Rattle.tree_check.specs.Layout.{nodes-are}
 use Rattle.append.specs.Laws.Append.{room_at_root, root_at, room-levels, room_fits, header-levels}
 use Rattle.rebuild.specs.Rebuild.{Rebuilt, cleared}
 use Rattle.finish.specs.Finished.{cleared-size, cleared-later}
+use Rattle.std.specs.Borrow.{Bor}
 use Rattle.edit.specs.Free.{FirstFree}
-use Rattle.edit.specs.declared.Spot.{Spot}
+use Rattle.edit.specs.declared.Terms.{Terms}
 
 -- the code's SPARE: room is asked for together with these bytes, so that a size with them must be at most what a node holds
 abbrev pub spare : ℕ
@@ -25,32 +26,34 @@ pub record Free (s : List ℕ) (i : ℕ) : Type 0 where
   pub unused : is_in i (numbers (tree_of s)) ≡ false
   pub seven : u16 s 8 ≤ 7
 
--- the marks that are lent are the store's, where it is said that they are
-unfoldable pub MarkedWhere : Bool → List ℕ → List ℕ → Type 0
-MarkedWhere marked s seen = marked ≡ true → Marks s seen
+-- the marks that are lent are the store's
+abbrev pub MarkedWhere : Option (Bor (List ℕ)) → List ℕ → Type 0
+MarkedWhere marks s = MatchOption marks Unit (λ seen. Marks s seen.now)
 
-pub marked-here : (marked : Bool) (s seen : List ℕ) → MarkedWhere marked s seen → marked ≡ true → Marks s seen
-unfolding MarkedWhere
-marked-here marked s seen m e = m e
+pub marked-here : (marks : Option (Bor (List ℕ))) (s : List ℕ) (seen : Bor (List ℕ)) → MarkedWhere marks s → marks ≡ Some seen → Marks s seen.now
+marked-here marks s seen m e = subst (λ o. MarkedWhere o s) e m
 
-pub marked-so : (s seen : List ℕ) → Marks s seen → MarkedWhere true s seen
-unfolding MarkedWhere
-marked-so s seen m = λ e. m
+pub unmarked-so : (s : List ℕ) → MarkedWhere None s
+unmarked-so s = tt
 
-pub unmarked-so : (s seen : List ℕ) → MarkedWhere false s seen
-unfolding MarkedWhere
-unmarked-so s seen = λ e. absurd (false≢true e)
+-- the terms of a call by itself lend these marks
+abbrev pub AloneWith : List ℕ → Terms → Type 0
+AloneWith seen terms = MatchOption terms.marks ⊥ (λ m. m.now ≡ seen)
 
--- the answer r of free_above: such a node, or 0
-pub record Above (s : List ℕ) (r : ℕ) : Type 0 where
-  pub some : (r ≡ 0 → ⊥) → Free s r
+pub alone-marked : (s seen : List ℕ) (terms : Terms) → Marks s seen → AloneWith seen terms → MarkedWhere terms.marks s
+alone-marked s seen terms m a = go terms.marks a
+  where
+    go : (o : Option (Bor (List ℕ))) → MatchOption o ⊥ (λ x. x.now ≡ seen) → MarkedWhere o s
+    go None f = absurd f
+    go (Some x) f = subst (Marks s) (sym f) m
 
-pub above-none : (s : List ℕ) → Above s 0
-above-none s = record { some = λ h. absurd (h refl) }
+-- the answer of free_above: such a node, where it gives one
+abbrev pub Above : List ℕ → Option ℕ → Type 0
+Above s r = MatchOption r Unit (λ i. Free s i)
 
-pub above-found : (s seen : List ℕ) (n r levels : ℕ) → Marks s seen → n ≡ nodes_of (length s) → levels ≡ u16 s 8 → levels ≤ 7 → FirstFree seen n r → Above s r
-above-found s seen n r levels held z l h f =
-    record { some = λ q. some-free (f.free q) }
+pub above-found : (s seen : List ℕ) (n levels : ℕ) (r : Option ℕ) → Marks s seen → n ≡ nodes_of (length s) → levels ≡ u16 s 8 → levels ≤ 7 → FirstFree seen n r → Above s r
+above-found s seen n levels None held z l h f = tt
+above-found s seen n levels (Some r) held z l h f = some-free f
   where
     unmarked : (i : ℕ) (b : Bool) → is_in i (numbers (tree_of s)) ≡ b → i < nodes_of (length s) → get_or seen i 0 ≡ 0 → is_in i (numbers (tree_of s)) ≡ false
     unmarked i false q k g = q
@@ -65,20 +68,25 @@ pub few-nodes : (len : ℕ) → whole_nodes len ≡ true → (len / 1024 ≤ 102
 unfolding nodes_of
 few-nodes len e = let p : Whole len = whole_parts len e in (p.few, omega (arith, p.filled, p.enough))
 
--- where a message of this size goes
-unfoldable pub SpotFits : List ℕ → ℕ → Spot → Type 0
-SpotFits s size Spot.AtRoot = room_at_root s size ≡ true
-SpotFits s size (Spot.Above i) = Free s i
+-- where a message of this size has room: at the root, or in a free node for a new root
+abbrev pub Fits : List ℕ → ℕ → Option ℕ → Type 0
+Fits s size r = MatchOption r (room_at_root s size ≡ true) (λ i. Free s i)
 
--- what make_room leaves: the same map in a sound store, and a spot; of the work area only the part that calls may use has changed
-pub record Roomy (s s' w w' : List ℕ) (size : ℕ) (r : Spot) : Type 0 where
+pub fits-root : (s : List ℕ) (size : ℕ) (r : Option ℕ) → Fits s size r → r ≡ None → room_at_root s size ≡ true
+fits-root s size r f e = subst (Fits s size) e f
+
+pub fits-above : (s : List ℕ) (size : ℕ) (r : Option ℕ) (i : ℕ) → Fits s size r → r ≡ Some i → Free s i
+fits-above s size r i f e = subst (Fits s size) e f
+
+-- what make_room leaves: the same map in a sound store, and room; of the work area only the part that calls may use has changed
+pub record Roomy (s s' w w' : List ℕ) (size : ℕ) (r : Option ℕ) : Type 0 where
   pub is_sound : sound s' ≡ true
   pub table : table_of s' ≡ table_of s
   pub length_same : length s' ≡ length s
   pub work_length : length w' ≡ length w
   pub work_later : drop (work_per_node * nodes_of (length s)) w' ≡ drop (work_per_node * nodes_of (length s)) w
   pub area : (w' ≡ w) ⊎ (w' ≡ cleared (nodes_of (length s)) w)
-  pub spot : SpotFits s' size r
+  pub room : Fits s' size r
 
 -- room with bytes to spare is room
 pub room-less : (s : List ℕ) (size spare : ℕ) → room_at_root s (size + spare) ≡ true → room_at_root s size ≡ true
@@ -87,13 +95,11 @@ room-less s size spare e =
     let f = room_fits s (size + spare) e in
     rw (le-leb 2 (u16 s 8) (room-levels s (size + spare) e), le-leb (u16 s (root_at s) + size) 1016 (omega arith))
 
-pub roomy-now : (s w : List ℕ) (size : ℕ) → sound s ≡ true → room_at_root s size ≡ true → Roomy s s w w size Spot.AtRoot
-unfolding SpotFits
-roomy-now s w size ok e = record { is_sound = ok; table = refl; length_same = refl; work_length = refl; work_later = refl; area = inl refl; spot = e }
+pub roomy-now : (s w : List ℕ) (size : ℕ) → sound s ≡ true → room_at_root s size ≡ true → Roomy s s w w size None
+roomy-now s w size ok e = record { is_sound = ok; table = refl; length_same = refl; work_length = refl; work_later = refl; area = inl refl; room = e }
 
-pub roomy-above : (s w : List ℕ) (size r : ℕ) → sound s ≡ true → Above s r → (r ≡ 0 → ⊥) → Roomy s s w w size (Spot.Above r)
-unfolding SpotFits
-roomy-above s w size r ok a d = record { is_sound = ok; table = refl; length_same = refl; work_length = refl; work_later = refl; area = inl refl; spot = a.some d }
+pub roomy-above : (s w : List ℕ) (size r : ℕ) → sound s ≡ true → Free s r → Roomy s s w w size (Some r)
+roomy-above s w size r ok a = record { is_sound = ok; table = refl; length_same = refl; work_length = refl; work_later = refl; area = inl refl; room = a }
 
 module _ (s s' w w' : List ℕ) (size : ℕ) (whole : whole_nodes (length s) ≡ true) (long : work_per_node * nodes_of (length s) ≤ length w) (r : Rebuilt s s' w w') where
   same-work : length w' ≡ length w
@@ -102,10 +108,9 @@ module _ (s s' w w' : List ℕ) (size : ℕ) (whole : whole_nodes (length s) ≡
   same-later : drop (work_per_node * nodes_of (length s)) w' ≡ drop (work_per_node * nodes_of (length s)) w
   same-later = cleared-later (nodes_of (length s)) w w' r.work
 
-  pub rebuilt-above : (i : ℕ) → i ≡ length s' / 1024 / 4 → Roomy s s' w w' size (Spot.Above i)
-  unfolding SpotFits
+  pub rebuilt-above : (i : ℕ) → i ≡ length s' / 1024 / 4 → Roomy s s' w w' size (Some i)
   rebuilt-above i e =
-      record { is_sound = r.is_sound; table = r.table; length_same = r.size; work_length = same-work; work_later = same-later; area = inr r.work; spot = free }
+      record { is_sound = r.is_sound; table = r.table; length_same = r.size; work_length = same-work; work_later = same-later; area = inr r.work; room = free }
     where
       quarter : i ≡ nodes_of (length s) / 4
       quarter = e ∙ ap (λ n. n / 4) (nodes-are (length s') ∙ ap nodes_of r.size)

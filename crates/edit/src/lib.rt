@@ -5,10 +5,9 @@
 #![tactic(auto)]
 
 ghost use Rattle.std.specs.Prelude.{◌≡◌, true, ◌+◌, ◌≤◌, length};
-ghost use Rattle.image.specs.Path.{well_formed, value_fits, value_limit};
 ghost use Rattle.image.specs.Table.{without};
 ghost use Rattle.image.specs.Image.{nodes_of, whole_nodes, entries_limit};
-ghost use Rattle.image.specs.Sound.{sound, table_of};
+ghost use Rattle.image.specs.Sound.{sound, table_of, sound_message, lowest, highest};
 ghost use Rattle.laws.specs.ButLive.{sound_but_live};
 ghost use Rattle.edit.specs.Free.{FirstFree};
 ghost use Rattle.image.specs.Calls.{acts, put, drops, clear};
@@ -16,13 +15,17 @@ ghost use Rattle.image.specs.Contract.{Meets};
 ghost use Rattle.image.specs.Answers.{outcome_answer};
 ghost use Rattle.questions.specs.Acted.{Passed, Acted};
 ghost use Rattle.append.specs.Laws.Append.{room_at_root, Appended};
-ghost use Rattle.edit.specs.Change.{message_of, size_of, Allowed};
-ghost use Rattle.edit.specs.Known.{Known, CountWith};
-ghost use Rattle.edit.specs.Room.{Above, Free, MarkedWhere, SpotFits, Roomy, spare};
-ghost use Rattle.edit.specs.Edited.{Counted, Edited};
+ghost use Rattle.image.specs.Entry as defined;
+ghost use Rattle.laws.specs.Encode.{bytes_of};
+ghost use Rattle.node.specs.Lent.{message_is};
+ghost use Rattle.octets.specs.Cap.{cap};
+ghost use Rattle.edit.specs.Change.{Sized, Allowed};
+ghost use Rattle.edit.specs.Known.{Known, Counts, CountWith};
+ghost use Rattle.edit.specs.Room.{Above, AloneWith, MarkedWhere, Fits, Roomy, spare};
+ghost use Rattle.edit.specs.Edited.{Edited};
 
 use image::Refusal;
-use node::search::Found;
+use node::entries::Message;
 
 // So many messages wait in the root at most after a call: each costs every later judgement, and a rebuild that comes sooner is cheaper. A batch,
 // which judges once, keeps to it by its last change.
@@ -31,72 +34,59 @@ pub const WAITING: usize = 8;
 // Bytes that a root without messages must have left for those to come, else a new root goes above it; specs/Room has them as `spare`.
 const SPARE: usize = 400;
 
-// What is done to a path.
+// On what terms a change is made: how many messages may wait in the root after it, and the marks of the store's nodes in use, where they are known. They
+// are not inside a batch, whose changes make those of question 2 stale.
 #[derive(Clone, Copy)]
-pub enum Change {
-    Put,
-    Drop,
-    Clear,
-}
-
-// On what terms a change is made: how many messages may wait in the root after it, and whether the marks that are lent with it are the store's.
-#[derive(Clone, Copy)]
-pub struct Terms {
+pub struct Terms<'a> {
     pub waiting: usize,
-    pub marked: bool,
+    pub marks: Option<&'a [u8; 1024]>,
 }
 
-// The terms of a call by itself.
-const ALONE: Terms = Terms {
-    waiting: WAITING,
-    marked: true,
-};
+// The terms of a call by itself, which has asked questions 1 and 2.
+fn alone(marks: &[u8; 1024]) -> Terms
+    ensures { AloneWith marks.now result }
+{
+    Terms {
+        waiting: WAITING,
+        marks: Some(marks),
+    }
+}
 
-// A change that the questions allow: how many paths there are after it, or 65,536 where that is not known, and its terms.
+// A change that the questions allow: its message, how many paths there are after it, where that is known, and its terms.
 #[derive(Clone, Copy)]
-pub struct Edit {
-    pub change: Change,
-    pub count: usize,
-    pub terms: Terms,
+struct Edit<'a> {
+    message: Message<'a>,
+    count: Option<usize>,
+    terms: Terms<'a>,
 }
 
-// Where a message goes: to the root, or with a new root into this free node.
-#[derive(Clone, Copy)]
-pub enum Spot {
-    AtRoot,
-    Above(usize),
-}
-
-// The least number of a node that is not marked, 0 if there is none.
-fn first_free(seen: &[u8; 1024], n: usize) -> usize
+// The least number of a node that is not marked.
+fn first_free(seen: &[u8; 1024], n: usize) -> Option<usize>
     requires { n ≤ 1024 }
     ensures { FirstFree seen.now n result }
 {
-    let mut i = 1;
-    while i < n {
+    for i in 1..n {
         if seen[i] == 0 {
-            return i;
+            return Some(i);
         }
-        i = i + 1;
     }
-    0
+    None
 }
 
-// A free node for a new root above the old one, in which so many messages wait; 0 where there are any, no level is left, or no node is free. Where
-// `seen` does not hold the marks of the store, it marks into an array of its own: inside a batch, whose changes make the marks of question 2 stale.
-fn free_above(store: &[u8], seen: &[u8; 1024], marked: bool, waiting: usize) -> usize
-    requires { (whole_nodes (length store.now) ≡ true) × (sound store.now ≡ true) × MarkedWhere marked store.now seen.now }
+// A free node for a new root above the old one, in which so many messages wait: none where there are any, no level is left, or no node is free. Where
+// no marks are lent, it marks into an array of its own.
+fn free_above(store: &[u8], marks: Option<&[u8; 1024]>, waiting: usize) -> Option<usize>
+    requires { (whole_nodes (length store.now) ≡ true) × (sound store.now ≡ true) × MarkedWhere marks store.now }
     ensures { Above store.now result }
 {
     if waiting != 0 {
-        return 0;
+        return None;
     }
-    let levels = node::header::read_levels(store);
-    if 7 < levels {
-        return 0;
+    if 7 < node::header::read_levels(store) {
+        return None;
     }
     let n = store.len() / image::NODE_SIZE;
-    if marked {
+    if let Some(seen) = marks {
         return first_free(seen, n);
     }
     let mut own = [0u8; 1024];
@@ -119,82 +109,48 @@ fn goes_at_root(store: &[u8], size: usize, waiting: usize, most: usize) -> bool
     append::fits_at_root(store, size)
 }
 
-// Makes room for a message of this size, and tells where. After a rebuild a new root goes above the packed one even where that has room: it holds
-// one branch, so that as many messages fit there as may wait. A packed tree takes no node from a quarter of them on.
-fn make_room(
-    store: &mut [u8],
-    work: &mut [u8],
-    seen: &[u8; 1024],
-    size: usize,
-    terms: Terms,
-) -> Spot
-    requires { Passed store.old work.old × (size + spare ≤ entries_limit) × MarkedWhere terms.marked store.old seen.now }
+// Makes room for a message of this size: in the root, or in a free node for a new root, which it gives. After a rebuild a new root goes above the packed
+// one even where that has room: it holds one branch, so that as many messages fit there as may wait. A packed tree takes no node from a quarter of
+// them on.
+fn make_room(store: &mut [u8], work: &mut [u8], size: usize, terms: Terms) -> Option<usize>
+    requires { Passed store.old work.old × (size + spare ≤ entries_limit) × MarkedWhere terms.marks store.old }
     ensures { Roomy store.old store.new work.old work.new size result }
 {
     let waiting = append::waiting_at_root(store);
     if goes_at_root(store, size, waiting, terms.waiting) {
-        return Spot::AtRoot;
+        return None;
     }
-    let free = free_above(store, seen, terms.marked, waiting);
-    if free != 0 {
-        return Spot::Above(free);
+    if let Some(free) = free_above(store, terms.marks, waiting) {
+        return Some(free);
     }
     rebuild::rebuild(store, work);
-    Spot::Above(store.len() / image::NODE_SIZE / 4)
+    Some(store.len() / image::NODE_SIZE / 4)
 }
 
-// How many bytes the entry of a change has.
-fn entry_size(change: Change, path: usize, value: usize) -> usize
-    requires { (path ≤ 64) × (value ≤ value_limit) }
-    ensures { result ≡ size_of change path value }
+// How many bytes the entry of a message has.
+fn entry_size(message: Message) -> usize
+    requires { Sized (message_is message) }
+    ensures { result ≡ length (bytes_of (defined.message (message_is message.entry))) }
 {
-    match change {
-        Change::Put => 6 + path + value,
-        Change::Drop => 4 + path,
-        Change::Clear => 4 + path,
+    match message {
+        Message::Put(path, value) => 6 + path.len() + value.len(),
+        Message::Drop(path) => 4 + path.len(),
+        Message::Clear(path) => 4 + path.len(),
     }
 }
 
-// The change as a message after the root's others.
-fn add_at_root(store: &mut [u8], change: Change, path: &[u8], value: &[u8])
+// A message where there is room for it: in the root, or in a free node that becomes the root.
+fn add(store: &mut [u8], free: Option<usize>, message: Message)
     requires { (whole_nodes (length store.old) ≡ true)
         × (sound store.old ≡ true)
-        × (well_formed path.now ≡ true)
-        × (value_fits value.now ≡ true)
-        × (room_at_root store.old (size_of change (length path.now) (length value.now)) ≡ true) }
-    ensures { Appended store.old (message_of change path.now value.now) store.new }
+        × (sound_message lowest highest (message_is message) ≡ true)
+        × Sized (message_is message)
+        × Fits store.old (length (bytes_of (defined.message (message_is message)))) free }
+    ensures { Appended store.old (message_is message.entry) store.new }
 {
-    match change {
-        Change::Put => append::append_put(store, path, value),
-        Change::Drop => append::append_drop(store, path),
-        Change::Clear => append::append_clear(store, path),
-    }
-}
-
-// The change as the one message of a new root, in a free node.
-fn add_above(store: &mut [u8], free: usize, change: Change, path: &[u8], value: &[u8])
-    requires { (whole_nodes (length store.old) ≡ true) × (sound store.old ≡ true) × (well_formed path.now ≡ true) × (value_fits value.now ≡ true) × Free store.old free }
-    ensures { Appended store.old (message_of change path.now value.now) store.new }
-{
-    match change {
-        Change::Put => append::raise_put(store, free, path, value),
-        Change::Drop => append::raise_drop(store, free, path),
-        Change::Clear => append::raise_clear(store, free, path),
-    }
-}
-
-// The change as a message at a spot that has room for it.
-fn add(store: &mut [u8], spot: Spot, change: Change, path: &[u8], value: &[u8])
-    requires { (whole_nodes (length store.old) ≡ true)
-        × (sound store.old ≡ true)
-        × (well_formed path.now ≡ true)
-        × (value_fits value.now ≡ true)
-        × SpotFits store.old (size_of change (length path.now) (length value.now)) spot }
-    ensures { Appended store.old (message_of change path.now value.now) store.new }
-{
-    match spot {
-        Spot::AtRoot => add_at_root(store, change, path, value),
-        Spot::Above(free) => add_above(store, free, change, path, value),
+    match free {
+        None => append::append(store, message),
+        Some(node) => append::raise(store, node, message),
     }
 }
 
@@ -204,11 +160,10 @@ fn count_with(store: &[u8], path: &[u8]) -> usize
     ensures { CountWith path.now (table_of store.now) result }
 {
     let live = node::header::read_live(store);
-    let found = lookup::value_of(store, path);
-    let Found::Nothing = found else {
-        return live;
-    };
-    live + 1
+    match lookup::value_of(store, path) {
+        Some(_) => live,
+        None => live + 1,
+    }
 }
 
 // How many paths there are once a path is absent, by one lookup.
@@ -217,61 +172,49 @@ fn count_without(store: &[u8], path: &[u8]) -> usize
     ensures { result ≡ length (without path.now (table_of store.now)) }
 {
     let live = node::header::read_live(store);
-    let found = lookup::value_of(store, path);
-    let Found::Nothing = found else {
-        return live - 1;
-    };
-    live
+    match lookup::value_of(store, path) {
+        Some(_) => live - 1,
+        None => live,
+    }
 }
 
-// The live count written: counted anew where 65,536 says that it is not known.
-fn write_count(store: &mut [u8], known: usize)
-    requires { (whole_nodes (length store.old) ≡ true)
-        × (sound_but_live store.old ≡ true)
-        × (length (table_of store.old) ≤ nodes_of (length store.old))
-        × (known ≤ 65535 → known ≡ length (table_of store.old)) }
-    ensures { Counted store.old store.new }
+// How many paths there are: as is known, or counted.
+fn live_paths(store: &[u8], known: Option<usize>) -> usize
+    requires { (sound_but_live store.now ≡ true)
+        × (length (table_of store.now) ≤ nodes_of (length store.now))
+        × (whole_nodes (length store.now) ≡ true)
+        × Counts known (length (table_of store.now)) }
+    ensures { result ≡ cap (length (table_of store.now)) }
 {
-    if 65535 < known {
-        let live = live_count::count_paths(store);
-        append::set_live(store, live);
-        return;
+    match known {
+        Some(count) => count,
+        None => live_count::count_paths(store),
     }
-    append::set_live(store, known);
 }
 
 // A change that the questions allow: room for its message, the message, the live count.
-fn apply_change(
-    store: &mut [u8],
-    work: &mut [u8],
-    seen: &[u8; 1024],
-    path: &[u8],
-    value: &[u8],
-    edit: Edit,
-)
+fn apply_change(store: &mut [u8], work: &mut [u8], edit: Edit)
     requires { Passed store.old work.old
-        × MarkedWhere edit.terms.marked store.old seen.now
-        × Allowed edit.change path.now value.now (table_of store.old) (nodes_of (length store.old))
-        × Known (message_of edit.change path.now value.now) (table_of store.old) edit.count }
-    ensures { Edited store.old store.new work.old work.new (message_of edit.change path.now value.now) }
+        × MarkedWhere edit.terms.marks store.old
+        × Allowed (message_is edit.message) (table_of store.old) (nodes_of (length store.old))
+        × Known (message_is edit.message) (table_of store.old) edit.count }
+    ensures { Edited store.old store.new work.old work.new (message_is edit.entry.message) }
 {
-    let change = edit.change;
-    let size = entry_size(change, path.len(), value.len());
-    let spot = make_room(store, work, seen, size, edit.terms);
-    add(store, spot, change, path, value);
-    write_count(store, edit.count);
+    let free = make_room(store, work, entry_size(edit.message), edit.terms);
+    add(store, free, edit.message);
+    let live = live_paths(store, edit.count);
+    append::set_live(store, live);
 }
 
 // put, on a store and a work area that are fit. Question 10 asks whether there is a node for each path.
 pub fn put_fit(
     store: &mut [u8],
     work: &mut [u8],
-    seen: &[u8; 1024],
     path: &[u8],
     value: &[u8],
     terms: Terms,
 ) -> Result<(), Refusal>
-    requires { Passed store.old work.old × MarkedWhere terms.marked store.old seen.now }
+    requires { Passed store.old work.old × MarkedWhere terms.marks store.old }
     ensures { Acted store.old (acts (put path.now value.now) work.old) result store.new work.old work.new }
 {
     if !path::is_path(path) {
@@ -285,11 +228,11 @@ pub fn put_fit(
         return Err(Refusal::Full);
     }
     let edit = Edit {
-        change: Change::Put,
-        count,
+        message: Message::Put(path, value),
+        count: Some(count),
         terms,
     };
-    apply_change(store, work, seen, path, value, edit);
+    apply_change(store, work, edit);
     Ok(())
 }
 
@@ -299,20 +242,14 @@ pub fn put(store: &mut [u8], work: &mut [u8], path: &[u8], value: &[u8]) -> Resu
 {
     let mut seen = [0u8; 1024];
     questions::ask(store, work, &mut seen)?;
-    put_fit(store, work, &seen, path, value, ALONE)?;
+    put_fit(store, work, path, value, alone(&seen))?;
     questions::zero_area(work, store.len() / image::NODE_SIZE);
     Ok(())
 }
 
 // drop, likewise.
-pub fn drop_fit(
-    store: &mut [u8],
-    work: &mut [u8],
-    seen: &[u8; 1024],
-    path: &[u8],
-    terms: Terms,
-) -> Result<(), Refusal>
-    requires { Passed store.old work.old × MarkedWhere terms.marked store.old seen.now }
+pub fn drop_fit(store: &mut [u8], work: &mut [u8], path: &[u8], terms: Terms) -> Result<(), Refusal>
+    requires { Passed store.old work.old × MarkedWhere terms.marks store.old }
     ensures { Acted store.old (acts (drops path.now) work.old) result store.new work.old work.new }
 {
     if !path::is_path(path) {
@@ -320,11 +257,11 @@ pub fn drop_fit(
     }
     let count = count_without(store, path);
     let edit = Edit {
-        change: Change::Drop,
-        count,
+        message: Message::Drop(path),
+        count: Some(count),
         terms,
     };
-    apply_change(store, work, seen, path, &path[0..0], edit);
+    apply_change(store, work, edit);
     Ok(())
 }
 
@@ -334,7 +271,7 @@ pub fn drop(store: &mut [u8], work: &mut [u8], path: &[u8]) -> Result<(), Refusa
 {
     let mut seen = [0u8; 1024];
     questions::ask(store, work, &mut seen)?;
-    drop_fit(store, work, &seen, path, ALONE)?;
+    drop_fit(store, work, path, alone(&seen))?;
     questions::zero_area(work, store.len() / image::NODE_SIZE);
     Ok(())
 }
@@ -344,11 +281,10 @@ pub fn drop(store: &mut [u8], work: &mut [u8], path: &[u8]) -> Result<(), Refusa
 pub fn clear_fit(
     store: &mut [u8],
     work: &mut [u8],
-    seen: &[u8; 1024],
     path: &[u8],
     terms: Terms,
 ) -> Result<(), Refusal>
-    requires { Passed store.old work.old × MarkedWhere terms.marked store.old seen.now }
+    requires { Passed store.old work.old × MarkedWhere terms.marks store.old }
     ensures { Acted store.old (acts (clear path.now) work.old) result store.new work.old work.new }
 {
     if path.len() == 0 {
@@ -359,11 +295,11 @@ pub fn clear_fit(
         return Err(Refusal::Malformed);
     }
     let edit = Edit {
-        change: Change::Clear,
-        count: 65536,
+        message: Message::Clear(path),
+        count: None,
         terms,
     };
-    apply_change(store, work, seen, path, &path[0..0], edit);
+    apply_change(store, work, edit);
     Ok(())
 }
 
@@ -373,7 +309,7 @@ pub fn clear(store: &mut [u8], work: &mut [u8], path: &[u8]) -> Result<(), Refus
 {
     let mut seen = [0u8; 1024];
     questions::ask(store, work, &mut seen)?;
-    clear_fit(store, work, &seen, path, ALONE)?;
+    clear_fit(store, work, path, alone(&seen))?;
     questions::zero_area(work, store.len() / image::NODE_SIZE);
     Ok(())
 }

@@ -2,7 +2,7 @@
 use Rattle.questions.specs.Callers.{to_act}
 use Rattle.questions.specs.Asked.{asked-fit, refused-meets}
 use Rattle.questions.specs.Acted.{passed, acted-long, accepted-meets, refused-left}
-use Rattle.edit.specs.Room.{marked-so}
+use Rattle.edit.specs.Room.{alone-marked}
 use Rattle.std.specs.Prelude.{refl}
 use Rattle.edit.proofs.clear.Goals as goal
 
@@ -10,7 +10,7 @@ pub returns-in_err-ask : goal.returns-in_err-ask
 returns-in_err-ask c = refused-meets _ _ _ _ c.in_err-ask.ensures _ c.from_residual.ensures.1 _ to_act
 
 pub clear_fit-requires : goal.clear_fit-requires
-clear_fit-requires c = let f = asked-fit _ _ _ _ c.in_ok-ask.ensures in (passed _ _ _ _ f, marked-so _ _ f.holds.reached)
+clear_fit-requires c = let f = asked-fit _ _ _ _ c.in_ok-ask.ensures in (passed _ _ _ _ f, alone-marked _ _ c.alone.result f.holds.reached c.alone.ensures)
 
 pub returns-in_err-clear_fit : goal.returns-in_err-clear_fit
 returns-in_err-clear_fit c = refused-left c.args.store.now _ _ c.args.work.now _ _ c.in_err-clear_fit.ensures _ c.from_residual-in_err-clear_fit.ensures.1

@@ -1,9 +1,10 @@
 // The program's files, `console [DONE [NEW [OLD]]]`: how many words there are says which of the descriptors 3, 4 and 5 tools/splicelog.c has
 // opened; the words are their names for messages. The program goes on with the image on OLD and leaves its own on NEW, and a byte on DONE
 // says that all is done. Nothing is made or removed here. Relies on: make, soundness and std.
-ghost use Rattle.std.specs.Prelude.{◌≡◌, zero, true, length};
+ghost use Rattle.std.specs.Prelude.{◌≡◌, true, length, OnOk};
 ghost use Rattle.image.specs.Sound.{sound};
 
+use image::Refusal;
 use std::env::{Env, FillError};
 use std::fs::{File, OpenOptions};
 use std::io;
@@ -51,8 +52,8 @@ fn tell_error(rt: &HostRuntime, word: usize, error: &io::Error) {
 }
 
 // Tells which question the image on OLD got a no to, as document 01 counts them.
-fn tell_refusal(rt: &HostRuntime, number: usize) {
-    if number == 1 {
+fn tell_refusal(rt: &HostRuntime, refusal: Refusal) {
+    if refusal == Refusal::Length {
         tell(
             rt,
             3,
@@ -76,24 +77,24 @@ fn read_full(file: &mut File, buffer: &mut [u8]) -> usize {
     done
 }
 
-// Reads a file into the store: 0, or the number of the first question that its image gets a no to. One byte more is asked for, since a longer
-// file begins with as many.
-fn read_image(file: &mut File, store: &mut [u8]) -> usize
+// Reads a file into the store, or refuses it by the first question that its image gets a no to. One byte more is asked for, since a longer file
+// begins with as many.
+fn read_image(file: &mut File, store: &mut [u8]) -> Result<(), Refusal>
     requires { length store.old ≡ 65536 }
-    ensures { result ≡ 0 → sound store.new ≡ true }
+    ensures { OnOk result (sound store.new ≡ true) }
 {
     let count = read_full(file, store);
     if count < store.len() {
-        return 1;
+        return Err(Refusal::Length);
     }
     let mut more = [0u8; 1];
     if 0 < read_full(file, &mut more) {
-        return 1;
+        return Err(Refusal::Length);
     }
     if !soundness::is_sound(store) {
-        return 2;
+        return Err(Refusal::Unsound);
     }
-    0
+    Ok(())
 }
 
 // The store to begin with: the image on OLD, or where there is none a store just made. False where that image is not taken.
@@ -102,7 +103,7 @@ pub fn begin(rt: &HostRuntime, store: &mut [u8]) -> bool
     ensures { result ≡ true → sound store.new ≡ true }
 {
     if !has_words(rt, 3) {
-        make::make(store);
+        let _ = make::make(store); // 65,536 bytes are whole nodes, which make does not refuse
         return true;
     }
     let mut file = match File::open(rt, OLD) {
@@ -112,12 +113,13 @@ pub fn begin(rt: &HostRuntime, store: &mut [u8]) -> bool
             return false;
         }
     };
-    let number = read_image(&mut file, store);
-    if number == 0 {
-        return true;
+    match read_image(&mut file, store) {
+        Ok(()) => true,
+        Err(refusal) => {
+            tell_refusal(rt, refusal);
+            false
+        }
     }
-    tell_refusal(rt, number);
-    false
 }
 
 // Writes the image to NEW and has it brought to the disk.

@@ -27,14 +27,11 @@ pub fn get_fit(store: &[u8], path: &[u8], buffer: &mut [u8]) -> Found
     if buffer.len() < image::VALUE_LIMIT {
         return Found::Refused(Refusal::ShortBuffer);
     }
-    let found = lookup::value_of(store, path);
-    let node::search::Found::Value(value) = found else {
+    let Some(value) = lookup::value_of(store, path) else {
         return Found::Refused(Refusal::Absent); // the path has no value
     };
-    let start = value.start;
-    let stop = value.stop;
-    octets::copy_at(buffer, 0, &store[start..stop]);
-    Found::Length(stop - start)
+    octets::copy_at(buffer, 0, value);
+    Found::Length(value.len())
 }
 
 // The value of a path, at the front of the buffer.
@@ -73,15 +70,12 @@ pub fn next_fit(store: &[u8], path: &[u8], after: &[u8], buffer: &mut [u8]) -> F
     if buffer.len() < image::PATH_LIMIT {
         return Found::Refused(Refusal::ShortBuffer);
     }
-    let found = successor::next_path(store, path, after);
-    let len = found.len;
-    let absent = image::PATH_LIMIT < len;
-    if absent {
+    let Some(found) = successor::next_path(store, path, after) else {
         return Found::Refused(Refusal::Absent);
-    }
-    let bytes = found.bytes;
-    octets::copy_at(buffer, 0, &bytes[0..len]);
-    Found::Length(len)
+    };
+    let next = found.as_slice();
+    octets::copy_at(buffer, 0, next);
+    Found::Length(next.len())
 }
 
 // The least path below the first and greater than the second, at the front of the buffer.

@@ -14,10 +14,6 @@ use Rattle.laws.specs.Rising.{find-leads}
 use Rattle.laws.specs.LookupTable.{means-table}
 use Rattle.laws.specs.Follow.{table-rises}
 use Rattle.node.specs.Whole.{Whole, whole_parts}
-use Rattle.node.specs.Places.{part}
-use Rattle.node.specs.declared.Place.{Place}
-use Rattle.node.specs.declared.search.Found.{Found}
-use Rattle.node.specs.Search.Pairs.{Finds, found_in}
 use Rattle.live_count.specs.KeepLaws.{with-length}
 use Rattle.soundness.specs.Judged.{told-live}
 use Rattle.edit.specs.declared.Change.{Change}
@@ -69,36 +65,34 @@ without-one p (r ∷ t) x e f = go (same p r.key) refl (λ g. without-one p t x 
     go false k ih = rw k (ap suc (ih (sym (find-no p r t k) ∙ f)))
 
 -- each way out of the counts
-module _ (s : List ℕ) (whole : whole_nodes (length s) ≡ true) (ok : sound s ≡ true) (live : ℕ) (l : live ≡ u16 s 10) (p : List ℕ) (r : Found) (f : Finds s (value_in s p) r) where
+module _ (s : List ℕ) (whole : whole_nodes (length s) ≡ true) (ok : sound s ≡ true) (live : ℕ) (l : live ≡ u16 s 10) (p : List ℕ) where
   live-is : live ≡ length (table_of s)
   live-is =
       let parts : Whole (length s) = whole_parts (length s) whole in
       let right : eqb (header_of s).live (length (table_of s)) ≡ true = and_right (sound_but_live s) _ (sym (sound-live s) ∙ ok) in
       told-live s live (omega (arith, parts.filled, parts.enough)) l ∙ eqb-true (header_of s).live (length (table_of s)) right
 
-  there : (v : Place) → r ≡ Found.Value v → find p (table_of s) ≡ some (part s v)
-  unfolding found_in
-  there v e = sym (means-table s ok p) ∙ sym f.meant ∙ ap (found_in s) e
+  there : (v : List ℕ) → some v ≡ value_in s p → find p (table_of s) ≡ some v
+  there v e = sym (means-table s ok p) ∙ sym e
 
-  not_there : r ≡ Found.Nothing → find p (table_of s) ≡ none
-  unfolding found_in
-  not_there e = sym (means-table s ok p) ∙ sym f.meant ∙ ap (found_in s) e
+  not_there : none ≡ value_in s p → find p (table_of s) ≡ none
+  not_there e = sym (means-table s ok p) ∙ sym e
 
-  pub with-over : (v : Place) → r ≡ Found.Value v → CountWith p (table_of s) live
+  pub with-over : (v : List ℕ) → some v ≡ value_in s p → CountWith p (table_of s) live
   unfolding CountWith
-  with-over v e = λ x. live-is ∙ sym (over-same p x (table_of s) (part s v) (table-rises s ok) (there v e))
+  with-over v e = λ x. live-is ∙ sym (over-same p x (table_of s) v (table-rises s ok) (there v e))
 
-  pub with-new : r ≡ Found.Nothing → CountWith p (table_of s) (live + 1)
+  pub with-new : none ≡ value_in s p → CountWith p (table_of s) (live + 1)
   unfolding CountWith
   with-new e = λ x. let a = live-is in let b = with-length p x (table_of s) (not_there e) in omega arith
 
-  pub one-there : (v : Place) → r ≡ Found.Value v → 1 ≤ live
-  one-there v e = let a = live-is in let b = without-one p (table_of s) (part s v) (table-rises s ok) (there v e) in omega arith
+  pub one-there : (v : List ℕ) → some v ≡ value_in s p → 1 ≤ live
+  one-there v e = let a = live-is in let b = without-one p (table_of s) v (table-rises s ok) (there v e) in omega arith
 
-  pub without-it : (v : Place) → r ≡ Found.Value v → live - 1 ≡ length (without p (table_of s))
-  without-it v e = let a = live-is in let b = without-one p (table_of s) (part s v) (table-rises s ok) (there v e) in omega arith
+  pub without-it : (v : List ℕ) → some v ≡ value_in s p → live - 1 ≡ length (without p (table_of s))
+  without-it v e = let a = live-is in let b = without-one p (table_of s) v (table-rises s ok) (there v e) in omega arith
 
-  pub without-it-already : r ≡ Found.Nothing → live ≡ length (without p (table_of s))
+  pub without-it-already : none ≡ value_in s p → live ≡ length (without p (table_of s))
   without-it-already e = live-is ∙ sym (without-none p (table_of s) (not_there e))
 
 -- what a count says of a change

@@ -22,7 +22,6 @@ ghost use Rattle.edit.specs.Room.{Above, Free, MarkedWhere, SpotFits, Roomy, spa
 ghost use Rattle.edit.specs.Edited.{Counted, Edited};
 
 use image::{Outcome, Refusal};
-use node::search::Found;
 use questions::Admission;
 
 // So many messages wait in the root at most after a call: each costs every later judgement, and a rebuild that comes sooner is cheaper. A batch,
@@ -199,11 +198,10 @@ fn count_with(store: &[u8], path: &[u8]) -> usize
     ensures { CountWith path.now (table_of store.now) result }
 {
     let live = node::header::read_live(store);
-    let found = lookup::value_of(store, path);
-    let Found::Nothing = found else {
-        return live;
-    };
-    live + 1
+    match lookup::value_of(store, path) {
+        Some(_) => live,
+        None => live + 1,
+    }
 }
 
 // How many paths there are once a path is absent, by one lookup.
@@ -212,11 +210,10 @@ fn count_without(store: &[u8], path: &[u8]) -> usize
     ensures { result ≡ length (without path.now (table_of store.now)) }
 {
     let live = node::header::read_live(store);
-    let found = lookup::value_of(store, path);
-    let Found::Nothing = found else {
-        return live - 1;
-    };
-    live
+    match lookup::value_of(store, path) {
+        Some(_) => live - 1,
+        None => live,
+    }
 }
 
 // The live count written: counted anew where 65,536 says that it is not known.

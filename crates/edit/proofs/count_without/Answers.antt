@@ -8,10 +8,10 @@ pub read_live-live-requires : goal.read_live-live-requires
 read_live-live-requires c = omega (arith, (few-nodes _ c.requires.0).1)
 
 pub overflow_sub-result : goal.overflow_sub-result
-overflow_sub-result c = let l = one-there _ c.requires.0 c.requires.1 _ c.read_live-live.ensures.0 _ _ c.value_of-found.ensures _ c.in_default.is in omega arith
+overflow_sub-result c = let l = one-there _ c.requires.0 c.requires.1 _ c.read_live-live.ensures.0 _ _ c.in-Some.ensures in omega arith
 
-pub returns-in_default : goal.returns-in_default
-returns-in_default c = without-it _ c.requires.0 c.requires.1 _ c.read_live-live.ensures.0 _ _ c.value_of-found.ensures _ c.in_default.is
+pub returns-in-Some : goal.returns-in-Some
+returns-in-Some c = without-it _ c.requires.0 c.requires.1 _ c.read_live-live.ensures.0 _ _ c.in-Some.ensures
 
-pub returns : goal.returns
-returns c = without-it-already _ c.requires.0 c.requires.1 _ c.read_live-live.ensures.0 _ _ c.value_of-found.ensures c.in-Nothing.is
+pub returns-in-None : goal.returns-in-None
+returns-in-None c = without-it-already _ c.requires.0 c.requires.1 _ c.read_live-live.ensures.0 _ c.in-None.ensures

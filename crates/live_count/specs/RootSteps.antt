@@ -26,7 +26,7 @@ pub countable : (s : List ℕ) → sound_but_live s ≡ true → Countable s
 countable s e = let p = parts_of s e in record { tree = p.tree; range = p.range; levels = p.levels_high }
 
 module _ (s : List ℕ) (h : Countable s) where
-  tree-reads : usable (nodes_of (length s)) (tree_of s) ≡ true
+  pub tree-reads : usable (nodes_of (length s)) (tree_of s) ≡ true
   tree-reads = sound-usable (tree_of s) (nodes_of (length s)) lowest highest h.tree h.range
 
   pub one-node : 1024 ≤ length s

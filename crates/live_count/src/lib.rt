@@ -97,7 +97,7 @@ pub fn count_children<'a>(store: &'a [u8], level: usize, children: Branches<'a>,
         (passing here.now.trail) (path_in here.now.prefix) children.entry.high.now))
         × (result ≤ 65535) }
 {
-    let mut below = Position::new();
+    let mut below = *here;
     let mut total = 0;
     for child in children {
         let count = count_node(store, level, child, here, &mut below);

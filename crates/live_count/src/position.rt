@@ -45,14 +45,7 @@ impl<'a> Position<'a> {
     pub fn is_live(&self, key: &[u8]) -> bool
         ensures { result ≡ passing self.now.trail (path_in self.now.prefix ++ key.now) }
     {
-        if 64 - self.prefix.len < key.len() {
-            return false;
-        }
-        if self.trail.depth == 0 {
-            return true;
-        }
-        let full = path_buffer::extend(self.prefix, key);
-        self.trail.is_visible(&full.bytes[..full.len])
+        self.trail.is_live(self.prefix, key)
     }
 
     // The same of a key that the notes tell of, by these, or where they tell nothing, by the trail.

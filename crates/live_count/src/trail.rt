@@ -1,7 +1,8 @@
 // The nodes above that hold messages. Relies on visibility (the messages of one node); specs/Walk says what passes a trail.
 ghost use Rattle.std.specs.Prelude.{◌≡◌, ◌≤◌, length};
 
-use crate::visibility;
+use crate::{path_buffer, visibility};
+use node::PathBuffer;
 use node::entries::Entries;
 
 // A node of a trail: its entries, and how many bytes it lifts.
@@ -22,6 +23,7 @@ pub struct Trail<'a> {
 
 impl<'a> Trail<'a> {
     ghost use Rattle.std.specs.Prelude.{◌<◌, ◌+◌, ◌++◌, ◌∷◌, []};
+    ghost use Rattle.live_count.specs.PathBuffers.{path_in};
     ghost use Rattle.live_count.specs.Walk.{passing, stages_of, LiftsWithin};
 
     // No nodes.
@@ -65,5 +67,20 @@ impl<'a> Trail<'a> {
             }
         }
         true
+    }
+
+    // Whether the path that is a prefix and a key is short enough, and no node has a message on it.
+    pub fn is_live(&self, prefix: PathBuffer, key: &[u8]) -> bool
+        requires { (prefix.len ≤ 64) × LiftsWithin prefix.len self.now }
+        ensures { result ≡ passing self.now (path_in prefix ++ key.now) }
+    {
+        if 64 - prefix.len < key.len() {
+            return false;
+        }
+        if self.depth == 0 {
+            return true;
+        }
+        let full = path_buffer::extend(prefix, key);
+        self.is_visible(&full.bytes[..full.len])
     }
 }

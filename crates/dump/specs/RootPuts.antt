@@ -12,11 +12,9 @@ use Rattle.laws.specs.RowsRising.{rows-rise-in}
 use Rattle.laws.specs.Filter.{keep, keep_all}
 use Rattle.laws.specs.ButLive.{sound-but-live}
 use Rattle.laws.specs.Reading.Relative.{usable_in}
-use Rattle.node.specs.Places.{part, cursor_of}
-use Rattle.node.specs.Entries.{listed}
-use Rattle.node.specs.declared.Place.{Place}
-use Rattle.node.specs.declared.Cursor.{Cursor}
-use Rattle.node.specs.Search.Own.{branch, branches_among}
+use Rattle.node.specs.Lent.{left_of}
+use Rattle.node.specs.declared.entries.Entries.{Entries}
+use Rattle.node.specs.Search.Own.{branches_among}
 use Rattle.lookup.specs.Look.{listing, node-inside, branches-usable}
 use Rattle.packed.specs.Build.BuiltLaws.{no-rows-fit}
 use Rattle.packed.specs.Rows.Area.{rows_of}
@@ -24,47 +22,35 @@ use Rattle.packed.specs.Rows.Steps.{rows-length}
 use Rattle.live_count.specs.Live.{short}
 use Rattle.live_count.specs.LiveLaws.{all_short}
 use Rattle.live_count.specs.PathBuffers.{path_in}
-use Rattle.live_count.specs.declared.Visit.{Visit}
 use Rattle.node.specs.declared.PathBuffer.{PathBuffer}
-use Rattle.live_count.specs.declared.visibility.Trail.{Trail}
+use Rattle.live_count.specs.declared.position.Position.{Position}
 use Rattle.live_count.specs.Walk.{passing, Ready, ReadyBranches}
-use Rattle.live_count.specs.Noted.{Tells}
-use Rattle.live_count.specs.NotedSteps.{root_told}
-use Rattle.live_count.specs.RootSteps.{countable, tree_is, empty-prefix, no-trail}
+use Rattle.live_count.specs.Noted.{AtRoot, SoundBranches}
+use Rattle.live_count.specs.Steps.{no-trail}
+use Rattle.live_count.specs.RootSteps.{countable, tree_is, empty-prefix, root_told}
 use Rattle.dump.specs.Insertion.Insertion.{Merged, Laid, laid}
-use Rattle.dump.specs.Dump.{Room, Added, SoundBranches, BranchesTold, Dumped}
-use Rattle.dump.specs.Replacing.{only_puts, put_among, puts_fit, Unset, AtRoot}
+use Rattle.dump.specs.Dump.{Room, Added, Dumped}
+use Rattle.dump.specs.Replacing.{only_puts, put_among, puts_fit, Unset}
 use Rattle.dump.specs.ReplacingSteps.{puts-more, puts-passed}
-use Rattle.dump.specs.TreeLaws.{branches_sound, has-branches, interior-puts, interior-puts-fit}
-use Rattle.dump.specs.RootSteps.{table-few, dump-ready}
-use Rattle.node.specs.Search.Child.{NextChild}
+use Rattle.dump.specs.TreeLaws.{branches_sound, interior-puts, interior-puts-fit}
+use Rattle.dump.specs.RootSteps.{table-few, root-reads, dump-ready}
 
 -- the root lies in the store, and so do its entries
 pub root-inside : (s : List ℕ) → sound s ≡ true → (root levels : ℕ) → root ≡ u16 s 6 → levels ≡ u16 s 8 → (root * 1024 + 1024 ≤ length s) × (u16 s (root * 1024) ≤ 1016)
-root-inside s h root levels a b =
-    node-inside s root levels (dump-ready s h root levels a b (record { bytes = []; len = 0 }) refl (record { nodes = []; lifts = []; depth = 0 }) refl).reads
+root-inside s h root levels a b = node-inside s root levels (root-reads s h root levels a b)
 
-module _ (s : List ℕ) (h : sound s ≡ true) (v : Visit) (at : AtRoot s v) where
+module _ (s : List ℕ) (h : sound s ≡ true) (num level : ℕ) (en : num ≡ u16 s 6) (el : level ≡ u16 s 8) (v : Position) (at : AtRoot v) where
   abbrev p : PathBuffer
-  p = v.position.prefix
+  p = v.prefix
 
-  abbrev t : Trail
-  t = v.position.trail
-
-  abbrev num : ℕ
-  num = v.num
-
-  abbrev level : ℕ
-  level = v.level
-
-  ready : Ready s level num p t
-  ready = dump-ready s h num level at.num at.level p at.prefix t at.trail
+  ready : Ready s level num v.trail
+  ready = dump-ready s h num level en el v.trail at.trail
 
   nothing-before : path_in p ≡ []
-  nothing-before = empty-prefix s (countable s (sound-but-live s h)) num level at.num at.level p at.prefix
+  nothing-before = empty-prefix s (countable s (sound-but-live s h)) num level en el p at.prefix
 
   tree-whole : tree_at level s num ≡ tree_of s
-  tree-whole = tree_is s (countable s (sound-but-live s h)) num level at.num at.level
+  tree-whole = tree_is s (countable s (sound-but-live s h)) num level en el
 
   root-sound : sound_tree (tree_at level s num) lowest highest ≡ true
   root-sound = ap (λ x. sound_tree x lowest highest) tree-whole ∙ (countable s (sound-but-live s h)).tree
@@ -73,26 +59,19 @@ module _ (s : List ℕ) (h : sound s ≡ true) (v : Visit) (at : AtRoot s v) whe
   unfolding shared
   nothing-lifted = refl
 
-  module _ (two : 2 ≤ level) (only : only_puts (listing s num) ≡ true) (entries : Cursor) (ee : entries ≡ cursor_of s num) where
-    abbrev own : List Entry
-    own = listed s entries.at entries.end
+  module _ (two : 2 ≤ level) (only : only_puts (listing s num) ≡ true) (it : Entries) (ee : left_of it ≡ listing s num) (branches : List Branch) (eb : branches ≡ branches_among (left_of it))
+      (hi : List ℕ) (eh : hi ≡ highest) where
+      abbrev own : List Entry
+      own = left_of it
 
-    own_is : listing s num ≡ own
-    own_is = ap (λ x. listed s x.at x.end) (sym ee)
-
-    pub root-bare : (area : List ℕ) → branches_among own ≡ [] → Dumped s area area 0
-    root-bare area q = absurd (has-branches s num level ready.reads two lowest highest root-sound (ap (λ es. branches_among es) own_is ∙ q))
-
-    module _ (first : ℕ) (pivot : Place) (next : Cursor) (nc : NextChild s entries.at entries.end first pivot next)
-        (hi : List ℕ) (eh : hi ≡ highest) where
-      abbrev branches : List Branch
-      branches = branch first (part s pivot) ∷ branches_among (listed s next.at next.end)
+      own_is : listing s num ≡ own
+      own_is = sym ee
 
       abbrev forest : List Branch → Forest
       forest ks = forest_of (λ j. tree_at (level - 1) s j) ks
 
       branches-are : branches_among (listing s num) ≡ branches
-      branches-are = ap (λ es. branches_among es) own_is ∙ nc.lists
+      branches-are = ap branches_among own_is ∙ sym eb
 
       prefix-is : shared lowest highest ≡ path_in p
       prefix-is = nothing-lifted ∙ sym nothing-before
@@ -107,27 +86,17 @@ module _ (s : List ℕ) (h : sound s ≡ true) (v : Visit) (at : AtRoot s v) whe
           ∙ branches_sound s num level ready.reads two lowest highest root-sound
 
       -- what the walk over the children asks
-      pub children-ready : next.end ≤ length s → ReadyBranches s (level - 1) first pivot next p t
-      children-ready f =
+      pub children-ready : ReadyBranches s (level - 1) branches v.trail
+      children-ready =
           let d = ready.deep in
-          record {
-            reads = ap (λ ks. usable_in (nodes_of (length s)) (forest ks)) (sym branches-are) ∙ branches-usable s num level ready.reads two;
-            ends = f;
-            place = nc.place;
-            room = ready.room;
-            trail = ready.trail;
-            deep = omega arith;
-          }
+          record { reads = ap (λ ks. usable_in (nodes_of (length s)) (forest ks)) (sym branches-are) ∙ branches-usable s num level ready.reads two; deep = omega arith }
 
-      pub children-sound : SoundBranches s (level - 1) (path_in p) hi branches
-      children-sound = record { low = lowest; branches = forest-sound }
-
-      pub children-told : (ns : List ℕ) → BranchesTold s (level - 1) first pivot next p hi t ns v.position.noted
-      children-told ns =
+      pub children-sound : SoundBranches s (level - 1) branches hi v
+      children-sound =
           record {
             low = lowest;
             sound = ap (λ l. sound_forest (forest branches) (path_in p) l (path_in p ++ hi)) (ap (λ front. front ++ lowest) nothing-before) ∙ forest-sound;
-            tells = subst (λ n. Tells s t (path_in p) lowest hi ns n) (sym at.noted) (root_told s t (path_in p) lowest hi ns at.trail);
+            tells = root_told v lowest hi at;
           }
 
       -- the children's rows, all of them short
@@ -135,7 +104,7 @@ module _ (s : List ℕ) (h : sound s ≡ true) (v : Visit) (at : AtRoot s v) whe
       Branches = rows_in (forest branches) (path_in p) (path_in p ++ hi)
 
       abbrev Kept : List Row
-      Kept = keep (passing s t) Branches
+      Kept = keep (passing v.trail) Branches
 
       with-puts : put_among [] own Branches ≡ table_of s
       unfolding table_of
@@ -152,7 +121,7 @@ module _ (s : List ℕ) (h : sound s ≡ true) (v : Visit) (at : AtRoot s v) whe
 
       kept_all : Kept ≡ Branches
       kept_all =
-          ap (λ f. keep f Branches) (λ i q. no-trail s (countable s (sound-but-live s h)) num level at.num at.level t at.trail q i)
+          ap (λ f. keep f Branches) (λ i q. no-trail v.trail at.trail q i)
           ∙ keep_all short Branches (puts-passed short [] own Branches (ap (every_key short) with-puts ∙ table-short))
 
       kept-rises : rising Kept ≡ true

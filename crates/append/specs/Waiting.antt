@@ -7,11 +7,11 @@ use Rattle.image.specs.Entry as defined
 use Rattle.image.specs.Image.{Tree, unread, leaf, interior, Inside, nodes_of, header_of, message_then, messages_of, no_branches, branch_then, inside_of, tree_at, tree_of}
 use Rattle.laws.specs.Reading.Relative.{usable, sound-usable}
 use Rattle.image.specs.Sound.{lowest, highest}
-use Rattle.node.specs.Entries.{listed}
+use Rattle.node.specs.Whole.{HasEntries}
 use Rattle.node.specs.Search.Messages.{is_message, messages_among}
-use Rattle.lookup.specs.Look.{InteriorAt, leaf-at, interior-at}
+use Rattle.lookup.specs.Look.{listing, InteriorAt, leaf-at, interior-at}
 use Rattle.laws.specs.ButLive.{sound_but_live, SoundParts, parts_of}
-use Rattle.append.specs.Laws.Append.{root_at, header-root, header-levels}
+use Rattle.append.specs.Laws.Append.{header-root, header-levels}
 
 -- how many messages the root of a tree holds
 unfoldable pub waiting : Tree → ℕ
@@ -79,19 +79,14 @@ module _ (s : List ℕ) (e : sound_but_live s ≡ true) where
   interior-here : 2 ≤ u16 s 8 → InteriorAt s (header_of s).root (header_of s).levels ((header_of s).levels - 1)
   interior-here h = let z = header-levels s in interior-at s (header_of s).root (header_of s).levels (omega arith) root-usable
 
-  pub root-short : (levels at len : ℕ) → levels ≡ u16 s 8 → 2 ≤ levels → at ≡ root_at s → len ≡ u16 s at → len ≤ 1016
-  unfolding root_at
-  root-short levels at len q h a l =
-      let z : u16 s (u16 s 6 * 1024) ≤ 1016 = subst (λ r. u16 s (r * 1024) ≤ 1016) (header-root s) (interior-here (omega arith)).node.short in
-      let y : len ≡ u16 s (u16 s 6 * 1024) = l ∙ ap (u16 s) a in
-      omega arith
-
-  pub root-counted : (levels at len r : ℕ) → levels ≡ u16 s 8 → 2 ≤ levels → at ≡ root_at s → len ≡ u16 s at → r ≡ messages_among (listed s (at + 8) (at + 8 + len))
-      → r ≡ waiting (tree_of s)
-  unfolding root_at tree_of waiting
-  root-counted levels at len r q h a l f =
+  pub root-entries : (levels root : ℕ) → levels ≡ u16 s 8 → 2 ≤ levels → root ≡ u16 s 6 → HasEntries s root
+  root-entries levels root q h r =
       let x = interior-here (omega arith) in
-      let e : at ≡ (header_of s).root * 1024 = a ∙ ap (λ k. k * 1024) (sym (header-root s)) in
-      let lists : listed s (at + 8) (at + 8 + len) ≡ x.es =
-      ap (λ k. listed s (at + 8) (at + 8 + k)) l ∙ ap (λ k. listed s (k + 8) (k + 8 + u16 s k)) e ∙ x.node.lists in
+      rw (r ∙ sym (header-root s)) (x.node.inside, x.node.short)
+
+  pub root-counted : (levels root n : ℕ) (es : List defined.Entry) → levels ≡ u16 s 8 → 2 ≤ levels → root ≡ u16 s 6 → es ≡ listing s root → n ≡ messages_among es → n ≡ waiting (tree_of s)
+  unfolding tree_of waiting
+  root-counted levels root n es q h r l f =
+      let x = interior-here (omega arith) in
+      let lists : es ≡ x.es = l ∙ ap (listing s) (r ∙ sym (header-root s)) ∙ x.node.lists in
       f ∙ ap messages_among lists ∙ inside-counted x.es x.x x.splits ∙ ap waiting (sym x.tree)

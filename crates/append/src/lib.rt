@@ -16,6 +16,7 @@ ghost use Rattle.append.specs.Laws.Raise.{root_raised};
 ghost use Rattle.append.specs.Laws.SetLive.{with_live};
 ghost use Rattle.append.specs.Waiting.{waiting};
 
+use node::entries::Entries;
 use node::writer;
 
 // Where the root's node begins.
@@ -149,8 +150,6 @@ pub fn waiting_at_root(store: &[u8]) -> usize
     if levels < 2 {
         return 0;
     }
-    let at = root_at(store);
-    let len = node::header::read_length(store, at);
-    let from = at + image::ENTRIES_AT;
-    node::search::count_messages(store, from, from + len)
+    let root = node::header::read_root(store);
+    node::search::count_messages(Entries::of_node(store, root))
 }

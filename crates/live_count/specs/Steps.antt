@@ -147,9 +147,9 @@ no-message (defined.message m ∷ es) r h = absurd (true≢false h)
 
 -- the trail for a node's children
 module _ (s : List ℕ) (num lift : ℕ) (t : Trail) (fit : TrailIn s lift t) (few : t.depth < 8) where
-  pub same-trail : (entries : Cursor) (b : Bool) → entries ≡ cursor_of s num → b ≡ has_message (listed s entries.at entries.end) → not b ≡ true → Deeper s num lift t t
-  same-trail entries b e h n =
-      let f : has_message (listing s num) ≡ false = ap (λ x. has_message (listed s x.at x.end)) (sym e) ∙ sym h ∙ not-true b n in
+  pub same-trail : (es : List defined.Entry) (b : Bool) → es ≡ listing s num → b ≡ has_message es → not b ≡ true → Deeper s num lift t t
+  same-trail es b e h n =
+      let f : has_message (listing s num) ≡ false = ap has_message (sym e) ∙ sym h ∙ not-true b n in
       record { test = λ q. joined (passing s t q) (holds_no_message (newest_among (listing s num) (drop lift q))) (no-message (listing s num) (drop lift q) f); fits = fit; depth = omega arith }
     where
       joined : (x y : Bool) → y ≡ true → x ≡ x && y

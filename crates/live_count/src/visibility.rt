@@ -13,6 +13,7 @@ ghost use Rattle.live_count.specs.CoverSteps.{Passed, Passing};
 ghost use Rattle.live_count.specs.Walk.{passing, TrailIn, Above, decides, Deeper, pushed};
 
 use crate::path_buffer;
+use node::entries::Entries;
 use node::{Cursor, Entry, Message, PathBuffer, Split, Step};
 
 // The nodes above that hold messages, from the root down: each with how many bytes it lifts.
@@ -202,8 +203,7 @@ pub fn lengthen_trail(store: &[u8], trail: Trail, num: usize, lift: usize) -> Tr
     requires { (trail.depth < 8) × TrailIn store.now lift trail × Above store.now lift num lift }
     ensures { Deeper store.now num lift trail result }
 {
-    let c = node::entries_of(store, num);
-    if !node::search::has_messages(store, c.at, c.end) {
+    if !node::search::has_messages(Entries::of_node(store, num)) {
         return trail;
     }
     push(trail, num, lift)

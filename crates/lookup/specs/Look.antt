@@ -12,14 +12,9 @@ use Rattle.laws.specs.LookupTable.{split}
 use Rattle.laws.specs.Reading.Relative.{lifts, from_here, from_branches, branch_high, high-at, usable, usable_in}
 use Rattle.node.specs.Cut.{cut, cut-drop, cut-take, cut-u16}
 use Rattle.node.specs.Entries.{listed, list_of, all_listed}
-use Rattle.node.specs.Places.{part, Within}
-use Rattle.node.specs.declared.Place.{Place}
-use Rattle.node.specs.declared.search.Latest.{Latest}
-use Rattle.node.specs.declared.search.Found.{Found}
-use Rattle.node.specs.declared.search.Owner.{Owner}
-use Rattle.node.specs.Search.Latest.{latest_in, LatestFits, entry_says, newest_among, LatestIs, newer-nothing}
-use Rattle.node.specs.Search.Pairs.{found_in, FoundFits, find_among, Finds, nothing_is}
-use Rattle.node.specs.Search.Own.{branch, branches_among, Range, range, owner_of, owner_in, OwnerFits, Owned}
+use Rattle.node.specs.Search.Latest.{entry_says, newest_among, newer-nothing}
+use Rattle.node.specs.Search.Pairs.{find_among}
+use Rattle.node.specs.Search.Own.{branch, branches_among, Range, range, owner_of}
 
 -- a node's bytes in the store
 module _ (s : List ℕ) (i : ℕ) (inside : i * 1024 + 1024 ≤ length s) where
@@ -320,129 +315,57 @@ module _ (s : List ℕ) (i level : ℕ) (u : usable (nodes_of (length s)) (tree_
 pub part-rest : (k : ℕ) (xs : List ℕ) → take (length xs - k) (drop k xs) ≡ drop k xs
 part-rest k xs = take_all (length xs - k) (drop k xs) (omega (arith, length-drop k xs))
 
-pub finds-as : (s : List ℕ) (x y : Option (List ℕ)) (r : Found) → x ≡ y → Finds s x r → Finds s y r
-finds-as s x y r e h = record { meant = h.meant ∙ e; fits = h.fits }
+said-decides : (x : Said) (v d : Option (List ℕ)) → says v ≡ x → v ≡ decide x d
+unfolding decide
+said-decides x v d h = ap (λ y. decide y d) h
 
-latest-value : (s : List ℕ) (x : Said) (d : Option (List ℕ)) (m : Latest) (p : Place) → LatestIs s x m → m ≡ Latest.Value p → Finds s (decide x d) (Found.Value p)
-unfolding found_in FoundFits latest_in LatestFits decide
-latest-value s x d m p h e =
-    let q : says (some (part s p)) ≡ x = rw e at h.meant in
-    let w : Within 0 (length s) p = subst (LatestFits (length s)) e h.fits in
-    record { meant = ap (λ y. decide y d) q; fits = w }
+silent-decides : (x : Said) (d : Option (List ℕ)) → nothing ≡ x → d ≡ decide x d
+unfolding decide
+silent-decides x d h = ap (λ y. decide y d) h
 
-latest-gone : (s : List ℕ) (x : Said) (d : Option (List ℕ)) (m : Latest) → LatestIs s x m → m ≡ Latest.Gone → Finds s (decide x d) Found.Nothing
-unfolding found_in FoundFits latest_in decide
-latest-gone s x d m h e =
-    let q : says none ≡ x = rw e at h.meant in
-    record { meant = ap (λ y. decide y d) q; fits = tt }
+-- The arms of the lookup: es is what the readers list.
+module _ (s : List ℕ) (i level : ℕ) (u : usable (nodes_of (length s)) (tree_at level s i) ≡ true) (hi rest : List ℕ) (es : List defined.Entry) (q : es ≡ listing s i) where
+  pub look-leaf : level ≤ 1 → (r : Option (List ℕ)) → r ≡ find_among es rest → r ≡ from_here (tree_at level s i) hi rest
+  look-leaf l r h = h ∙ ap (λ l. find_among l rest) q ∙ at_leaf s i level u hi rest l
 
-latest-uncovered : (s : List ℕ) (x : Said) (d : Option (List ℕ)) (m : Latest) → LatestIs s x m → m ≡ Latest.Nothing → d ≡ decide x d
-unfolding latest_in decide
-latest-uncovered s x d m h e =
-    let q : nothing ≡ x = rw e at h.meant in
-    ap (λ y. decide y d) q
+  module _ (two : 2 ≤ level) where
+    whole : decide (newest_among es rest) (on_range (λ j. tree_at (level - 1) s j) rest (owner_of (branches_among es) hi rest)) ≡ from_here (tree_at level s i) hi rest
+    whole = ap (λ l. decide (newest_among l rest) (on_range (λ j. tree_at (level - 1) s j) rest (owner_of (branches_among l) hi rest))) q ∙ at-interior s i level u hi rest two
 
-owned-inner : (s hi : List ℕ) (x : Option Range) (o : Owner) (c : ℕ) (low high : Place) → Owned s hi x o → o ≡ Owner.Inner c low high → x ≡ some (range c (part s low) (part s high))
-unfolding owner_in
-owned-inner s hi x o c low high h e = sym h.meant ∙ rw e
+    pub look-said : (v : Option (List ℕ)) → says v ≡ newest_among es rest → v ≡ from_here (tree_at level s i) hi rest
+    look-said v h = said-decides (newest_among es rest) v _ h ∙ whole
 
-owned-last : (s hi : List ℕ) (x : Option Range) (o : Owner) (c : ℕ) (low : Place) → Owned s hi x o → o ≡ Owner.Last c low → x ≡ some (range c (part s low) hi)
-unfolding owner_in
-owned-last s hi x o c low h e = sym h.meant ∙ rw e
+    -- the owner among the children ks of the entries
+    module _ (ks : List Branch) (high : List ℕ) (among : ks ≡ branches_among es) (ends : high ≡ hi) (x : Option Range) (found : x ≡ owner_of ks high rest) where
+      owner-here : x ≡ owner_of (branches_among es) hi rest
+      owner-here = found ∙ ap₂ (λ l h. owner_of l h rest) among ends
 
-owned-nobody : (s hi : List ℕ) (x : Option Range) (o : Owner) → Owned s hi x o → o ≡ Owner.Nobody → x ≡ none
-unfolding owner_in
-owned-nobody s hi x o h e = sym h.meant ∙ rw e
+      below : nothing ≡ newest_among es rest → on_range (λ j. tree_at (level - 1) s j) rest x ≡ from_here (tree_at level s i) hi rest
+      below h = ap (λ o. on_range (λ j. tree_at (level - 1) s j) rest o) owner-here ∙ silent-decides (newest_among es rest) _ h ∙ whole
 
-pub inner-places : (s hi : List ℕ) (x : Option Range) (o : Owner) (c : ℕ) (low high : Place) → Owned s hi x o → o ≡ Owner.Inner c low high
-    → Within 0 (length s) low × Within 0 (length s) high
-unfolding OwnerFits
-inner-places s hi x o c low high h e = subst (OwnerFits (length s)) e h.fits
+      pub look-nobody : nothing ≡ newest_among es rest → x ≡ none → none ≡ from_here (tree_at level s i) hi rest
+      look-nobody h e = sym (no-range (λ j. tree_at (level - 1) s j) rest) ∙ ap (λ o. on_range (λ j. tree_at (level - 1) s j) rest o) (sym e) ∙ below h
 
-pub last-places : (s hi : List ℕ) (x : Option Range) (o : Owner) (c : ℕ) (low : Place) → Owned s hi x o → o ≡ Owner.Last c low → Within 0 (length s) low
-unfolding OwnerFits
-last-places s hi x o c low h e = subst (OwnerFits (length s)) e h.fits
+      module _ (o : Range) (e : x ≡ some o) where
+        pub owner-usable : usable (nodes_of (length s)) (tree_at (level - 1) s o.number) ≡ true
+        owner-usable = child-usable s i level u hi rest two o (ap (λ l. owner_of (branches_among l) hi rest) (sym q) ∙ sym owner-here ∙ e)
 
--- The arms of the lookup: L is what the readers list, up to the number of bytes that was read.
-module _ (s : List ℕ) (i level : ℕ) (u : usable (nodes_of (length s)) (tree_at level s i) ≡ true) (hi rest : List ℕ) (len : ℕ) (el : len ≡ u16 s (i * 1024)) where
-  abbrev L : List defined.Entry
-  L = listed s (i * 1024 + 8) (i * 1024 + 8 + len)
+        module _ (k : ℕ) (ek : k ≡ length (shared o.low o.high)) where
+          pub owner-short : k ≤ length rest
+          owner-short =
+              let l : k ≡ lifts o.low o.high = unfold lifts in ek in
+              let h : lifts o.low o.high ≤ length rest = lifts-rest o.low o.high rest (range-owns ks high rest o (sym found ∙ e)) in
+              omega arith
 
-  same-list : L ≡ listing s i
-  same-list = ap (λ n. listed s (i * 1024 + 8) (i * 1024 + 8 + n)) el
-
-  pub look-leaf : level ≤ 1 → (r : Found) → Finds s (find_among L rest) r → Finds s (from_here (tree_at level s i) hi rest) r
-  look-leaf l r h = finds-as s _ _ r (ap (λ es. find_among es rest) same-list ∙ at_leaf s i level u hi rest l) h
-
-  module _ (two : 2 ≤ level) (m : Latest) (hm : LatestIs s (newest_among L rest) m) where
-    whole : decide (newest_among L rest) (on_range (λ j. tree_at (level - 1) s j) rest (owner_of (branches_among L) hi rest)) ≡ from_here (tree_at level s i) hi rest
-    whole = ap (λ es. decide (newest_among es rest) (on_range (λ j. tree_at (level - 1) s j) rest (owner_of (branches_among es) hi rest))) same-list ∙ at-interior s i level u hi rest two
-
-    pub look-value : (p : Place) → m ≡ Latest.Value p → Finds s (from_here (tree_at level s i) hi rest) (Found.Value p)
-    look-value p e = finds-as s _ _ _ whole (latest-value s (newest_among L rest) _ m p hm e)
-
-    pub look-gone : m ≡ Latest.Gone → Finds s (from_here (tree_at level s i) hi rest) Found.Nothing
-    look-gone e = finds-as s _ _ _ whole (latest-gone s (newest_among L rest) _ m hm e)
-
-    module _ (uncovered : m ≡ Latest.Nothing) (o : Owner) (ho : Owned s hi (owner_of (branches_among L) hi rest) o) where
-      below : on_range (λ j. tree_at (level - 1) s j) rest (owner_of (branches_among L) hi rest) ≡ from_here (tree_at level s i) hi rest
-      below = latest-uncovered s (newest_among L rest) _ m hm uncovered ∙ whole
-
-      in_list : (x : Option Range) → owner_of (branches_among L) hi rest ≡ x → owner_of (branches_among (listing s i)) hi rest ≡ x
-      in_list x e = ap (λ es. owner_of (branches_among es) hi rest) (sym same-list) ∙ e
-
-      pub look-nobody : o ≡ Owner.Nobody → Finds s (from_here (tree_at level s i) hi rest) Found.Nothing
-      look-nobody e =
-          let n : owner_of (branches_among L) hi rest ≡ none = owned-nobody s hi (owner_of (branches_among L) hi rest) o ho e in
-          nothing_is s (from_here (tree_at level s i) hi rest)
-          (sym below ∙ ap (λ x. on_range (λ j. tree_at (level - 1) s j) rest x) n ∙ no-range (λ j. tree_at (level - 1) s j) rest)
-
-      module _ (c : ℕ) (low high : Place) (e : o ≡ Owner.Inner c low high) where
-        abbrev inn : owner_of (branches_among L) hi rest ≡ some (range c (part s low) (part s high))
-        inn = owned-inner s hi (owner_of (branches_among L) hi rest) o c low high ho e
-
-        pub inner-usable : usable (nodes_of (length s)) (tree_at (level - 1) s c) ≡ true
-        inner-usable = child-usable s i level u hi rest two (range c (part s low) (part s high)) (in_list _ inn)
-
-        pub inner-short : (k : ℕ) → k ≡ length (shared (part s low) (part s high)) → k ≤ length rest
-        inner-short k ek =
-            let l : k ≡ lifts (part s low) (part s high) = unfold lifts in ek in
-            let h : lifts (part s low) (part s high) ≤ length rest = lifts-rest (part s low) (part s high) rest (range-owns (branches_among L) hi rest _ inn) in
-            omega arith
-
-        pub look-inner : (k : ℕ) → k ≡ length (shared (part s low) (part s high)) → high.start + k ≤ high.stop → (r : Found)
-            → Finds s (from_here (tree_at (level - 1) s c) (cut s (high.start + k) high.stop) (take (length rest - k) (drop k rest))) r
-            → Finds s (from_here (tree_at level s i) hi rest) r
-        look-inner k ek f r h =
-            let b : from_here (tree_at (level - 1) s c) (drop (lifts (part s low) (part s high)) (part s high)) (drop (lifts (part s low) (part s high)) rest) ≡ from_here (tree_at level s i) hi rest
-            = unfold on_range in rw inn at below in
-            let l : k ≡ lifts (part s low) (part s high) = unfold lifts in ek in
-            let b2 : from_here (tree_at (level - 1) s c) (drop k (part s high)) (drop k rest) ≡ from_here (tree_at level s i) hi rest = rw (← l) at b in
-            finds-as s _ _ r
-            (ap₂ (λ a z. from_here (tree_at (level - 1) s c) a z) (sym (cut-drop s high.start high.stop k f)) (part-rest k rest) ∙ b2) h
-
-      module _ (c : ℕ) (low : Place) (e : o ≡ Owner.Last c low) where
-        abbrev ins : owner_of (branches_among L) hi rest ≡ some (range c (part s low) hi)
-        ins = owned-last s hi (owner_of (branches_among L) hi rest) o c low ho e
-
-        pub last-usable : usable (nodes_of (length s)) (tree_at (level - 1) s c) ≡ true
-        last-usable = child-usable s i level u hi rest two (range c (part s low) hi) (in_list _ ins)
-
-        pub last-short : (k : ℕ) → k ≡ length (shared (part s low) hi) → k ≤ length rest
-        last-short k ek =
-            let l : k ≡ lifts (part s low) hi = unfold lifts in ek in
-            let h : lifts (part s low) hi ≤ length rest = lifts-rest (part s low) hi rest (range-owns (branches_among L) hi rest _ ins) in
-            omega arith
-
-        pub look-last : (k : ℕ) → k ≡ length (shared (part s low) hi) → (r : Found)
-            → Finds s (from_here (tree_at (level - 1) s c) (take (length hi - k) (drop k hi)) (take (length rest - k) (drop k rest))) r
-            → Finds s (from_here (tree_at level s i) hi rest) r
-        look-last k ek r h =
-            let b : from_here (tree_at (level - 1) s c) (drop (lifts (part s low) hi) hi) (drop (lifts (part s low) hi) rest) ≡ from_here (tree_at level s i) hi rest
-            = unfold on_range in rw ins at below in
-            let l : k ≡ lifts (part s low) hi = unfold lifts in ek in
-            let b2 : from_here (tree_at (level - 1) s c) (drop k hi) (drop k rest) ≡ from_here (tree_at level s i) hi rest = rw (← l) at b in
-            finds-as s _ _ r (ap₂ (λ a z. from_here (tree_at (level - 1) s c) a z) (part-rest k hi) (part-rest k rest) ∙ b2) h
+          pub look-owner : nothing ≡ newest_among es rest → (r : Option (List ℕ))
+              → r ≡ from_here (tree_at (level - 1) s o.number) (take (length o.high - k) (drop k o.high)) (take (length rest - k) (drop k rest))
+              → r ≡ from_here (tree_at level s i) hi rest
+          look-owner h r f =
+              let b : from_here (tree_at (level - 1) s o.number) (drop (lifts o.low o.high) o.high) (drop (lifts o.low o.high) rest) ≡ from_here (tree_at level s i) hi rest
+              = unfold on_range in rw e at below h in
+              let l : k ≡ lifts o.low o.high = unfold lifts in ek in
+              let c : from_here (tree_at (level - 1) s o.number) (drop k o.high) (drop k rest) ≡ from_here (tree_at level s i) hi rest = rw (← l) at b in
+              f ∙ ap₂ (λ a z. from_here (tree_at (level - 1) s o.number) a z) (part-rest k o.high) (part-rest k rest) ∙ c
 
 -- the children of a node that can be read
 pub branches-usable : (s : List ℕ) (i level : ℕ) → usable (nodes_of (length s)) (tree_at level s i) ≡ true → 2 ≤ level

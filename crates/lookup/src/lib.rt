@@ -7,54 +7,38 @@ ghost use Rattle.std.specs.Prelude.{◌≡◌, true, length};
 ghost use Rattle.image.specs.Image.{tree_at, nodes_of};
 ghost use Rattle.image.specs.Sound.{sound, value_in};
 ghost use Rattle.laws.specs.Reading.Relative.{usable, from_here};
-ghost use Rattle.node.specs.Search.Pairs.{Finds};
+ghost use Rattle.node.specs.Lent.{value_is};
 
-use node::search::{Found, Latest, Owner};
+use node::branches::Branches;
+use node::entries::Entries;
 
-// The place of the value that the node `num` of this level has for a rest. Its high pivot and the rest are without what it lifts.
-pub fn lookup(store: &[u8], num: usize, level: usize, hi: &[u8], rest: &[u8]) -> Found
+// The value that the node `num` of this level has for a rest. Its high pivot and the rest are without what it lifts.
+pub fn lookup<'a>(
+    store: &'a [u8],
+    num: usize,
+    level: usize,
+    hi: &[u8],
+    rest: &[u8],
+) -> Option<&'a [u8]>
     requires { usable (nodes_of (length store.now)) (tree_at level store.now num) ≡ true }
-    ensures { Finds store.now (from_here (tree_at level store.now num) hi.now rest.now) result }
+    ensures { value_is result ≡ from_here (tree_at level store.now num) hi.now rest.now }
 {
-    let at = num * image::NODE_SIZE;
-    let len = node::header::read_length(store, at);
-    let from = at + image::ENTRIES_AT;
-    let end = from + len;
+    let entries = Entries::of_node(store, num);
     if level <= 1 {
-        return node::search::find(store, from, end, rest);
+        return node::search::find(entries, rest);
     }
-    let m = node::search::newest(store, from, end, rest);
-    match m {
-        Latest::Value(p) => Found::Value(p),
-        Latest::Gone => Found::Nothing,
-        Latest::Nothing => {
-            let o = node::search::owner_of(store, from, end, hi, rest);
-            match o {
-                Owner::Inner(child, low, high) => {
-                    let a = low.start;
-                    let b = low.stop;
-                    let x = high.start;
-                    let y = high.stop;
-                    let k = octets::common_length(&store[a..b], &store[x..y]);
-                    let z = x + k;
-                    lookup(store, child, level - 1, &store[z..y], &rest[k..])
-                }
-                Owner::Last(child, low) => {
-                    let a = low.start;
-                    let b = low.stop;
-                    let k = octets::common_length(&store[a..b], hi);
-                    lookup(store, child, level - 1, &hi[k..], &rest[k..])
-                }
-                Owner::Nobody => Found::Nothing,
-            }
-        }
+    if let Some(said) = node::search::newest(entries, rest) {
+        return said;
     }
+    let owner = node::search::owner_of(Branches::among(entries, hi), rest)?;
+    let k = octets::common_length(owner.low, owner.high);
+    lookup(store, owner.number, level - 1, &owner.high[k..], &rest[k..])
 }
 
 // The value of a path in a sound image.
-pub fn value_of(store: &[u8], path: &[u8]) -> Found
+pub fn value_of<'a>(store: &'a [u8], path: &[u8]) -> Option<&'a [u8]>
     requires { sound store.now ≡ true }
-    ensures { Finds store.now (value_in store.now path.now) result }
+    ensures { value_is result ≡ value_in store.now path.now }
 {
     let root = node::header::read_root(store);
     let levels = node::header::read_levels(store);

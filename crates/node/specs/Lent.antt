@@ -1,8 +1,11 @@
 -- What the iterator over a node's entries lends: each item as the entry that it stands for, and what is left to be read.
 use Rattle.std.specs.Prelude.{ℕ, ◌+◌, ◌-◌, ◌<◌, ◌≤◌, ◌≡◌, refl, List, [], ◌∷◌, length, take, drop}
+use Rattle.std.specs.Prelude as found
+use Rattle.std.specs.Borrow.{Bor}
 use Rattle.image.specs.Prelude.{sym, ap, ap₂, ◌∙◌, none, some, Option, arith, length-drop, get_or-take, le-leb, lt-leb}
 use Rattle.image.specs.Bytes.{u16}
 use Rattle.image.specs.Entry as defined
+use Rattle.image.specs.Meaning.{Said, nothing, says}
 use Rattle.node.specs.Entries.{list_of, read_some, cons_then, read-cons, list-cons}
 use Rattle.node.specs.declared.entries.Message.{Message}
 use Rattle.node.specs.declared.entries.Entry.{Entry}
@@ -17,6 +20,15 @@ abbrev pub entry_is : Entry → defined.Entry
 entry_is (Entry.Pair k v) = defined.pair k.now v.now
 entry_is (Entry.Child i k) = defined.child i k.now
 entry_is (Entry.Message m) = defined.message (message_is m)
+
+-- a value found, and what a message says of a rest
+abbrev pub value_is : found.Option (Bor (List ℕ)) → Option (List ℕ)
+value_is found.None = none
+value_is (found.Some v) = some v.now
+
+abbrev pub said_is : found.Option (found.Option (Bor (List ℕ))) → Said
+said_is found.None = nothing
+said_is (found.Some v) = says (value_is v)
 
 abbrev pub left_of : Entries → List defined.Entry
 left_of it = list_of it.rest.now

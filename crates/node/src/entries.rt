@@ -2,10 +2,11 @@
 // where no entry reads. Relies on octets, header and the numbers of image.
 ghost use Rattle.std.specs.Prelude.{◌≡◌, ◌+◌, ◌*◌, MatchOption};
 ghost use Rattle.image.specs.Bytes.{u16};
+ghost use Rattle.image.specs.Meaning.{says_of};
 ghost use Rattle.node.specs.Cut.{cut};
 ghost use Rattle.node.specs.Entries.{listed};
 ghost use Rattle.node.specs.Whole.{HasEntries};
-ghost use Rattle.node.specs.Lent.{entry_is, left_of, Unkeyed, Keyed, Unread, Leads, NotOf, IsOf};
+ghost use Rattle.node.specs.Lent.{message_is, entry_is, left_of, said_is, Unkeyed, Keyed, Unread, Leads, NotOf, IsOf};
 
 use crate::header;
 
@@ -23,6 +24,38 @@ pub enum Entry<'a> {
     Pair(&'a [u8], &'a [u8]),
     Child(usize, &'a [u8]),
     Message(Message<'a>),
+}
+
+impl<'a> Message<'a> {
+    // What the message says of a rest: nothing, or that it is gone, or the value that it has.
+    #[tactic(auto, unfolding(image::specs::Meaning::says_of))]
+    pub fn says(self, rest: &[u8]) -> Option<Option<&'a [u8]>>
+        ensures { said_is result ≡ says_of (message_is self.entry) rest.now }
+    {
+        match self {
+            Message::Put(key, value) => {
+                if octets::equal(key, rest) {
+                    Some(Some(value))
+                } else {
+                    None
+                }
+            }
+            Message::Drop(key) => {
+                if octets::equal(key, rest) {
+                    Some(None)
+                } else {
+                    None
+                }
+            }
+            Message::Clear(key) => {
+                if octets::begins_with(key, rest) {
+                    Some(None)
+                } else {
+                    None
+                }
+            }
+        }
+    }
 }
 
 // The bytes of the entries that are still to be read.

@@ -22,6 +22,7 @@ ghost use Rattle.image.specs.Contract.{is_interior};
 ghost use Rattle.node.specs.Whole.{HasNode};
 
 use high::Sought;
+use node::entries::Entries;
 use node::search::Pending;
 use node::{Cursor, writer};
 
@@ -133,7 +134,10 @@ fn push_node(store: &mut [u8], num: usize, hi: &[u8]) -> Pushed
     let end = at + image::NODE_SIZE;
     let mut node = [0u8; 1024];
     octets::copy_at(&mut node, 0, &store[at..end]);
-    if !node::search::has_messages(&node, image::ENTRIES_AT, stop) {
+    let entries = Entries {
+        rest: &node[image::ENTRIES_AT..stop],
+    };
+    if !node::search::has_messages(entries) {
         return Pushed::Done;
     }
     if !room::all_fit(store, &node, stop, hi) {

@@ -1,7 +1,6 @@
--- `value_of` meets its contract. Relies on specs/Root and specs/Look.
+-- `value_of` meets its contract. Relies on specs/Root.
 use Rattle.lookup.specs.Root.{long-enough, root-usable, root-answers}
-use Rattle.lookup.specs.Look.{finds-as}
-use Rattle.image.specs.Prelude.{arith}
+use Rattle.image.specs.Prelude.{◌∙◌, arith}
 use Rattle.lookup.proofs.value_of.Goals as goal
 
 pub read_root-root-requires : goal.read_root-root-requires
@@ -14,4 +13,4 @@ pub lookup-requires : goal.lookup-requires
 lookup-requires c = root-usable c.args.store.now _ _ c.requires c.read_root-root.ensures.0 c.read_levels-levels.ensures.0
 
 pub returns : goal.returns
-returns c = finds-as _ _ _ _ (root-answers c.args.store.now _ _ _ c.requires c.read_root-root.ensures.0 c.read_levels-levels.ensures.0) c.lookup.ensures
+returns c = c.lookup.ensures ∙ root-answers c.args.store.now _ _ _ c.requires c.read_root-root.ensures.0 c.read_levels-levels.ensures.0

@@ -1,25 +1,16 @@
--- The newest message of a node on a rest, found entry by entry.
-use Rattle.std.specs.Prelude.{ℕ, ◌≡◌, refl, List, [], ◌∷◌, Bool, true, false, cond, length}
+-- The newest message of a node on a rest, found entry by entry; and whether an entry says anything of it.
+use Rattle.std.specs.Prelude.{ℕ, ◌≡◌, refl, List, [], ◌∷◌, Bool, true, false, cond}
 use Rattle.image.specs.Prelude.{sym, ap, subst, ◌∙◌, true≢false, Option, none, some}
 use Rattle.image.specs.Bytes.{same, begins}
 use Rattle.image.specs.Entry as defined
 use Rattle.image.specs.Meaning.{Said, nothing, says, says_of, newer}
-use Rattle.node.specs.Places.{part, message_in, entry_in, Within, MessageWithin, EntryWithin}
+use Rattle.node.specs.Places.{part, message_in, entry_in, MessageWithin, EntryWithin, Within}
+use Rattle.node.specs.Lent.{message_is, entry_is}
+use Rattle.node.specs.declared.entries.Message as spoken
+use Rattle.node.specs.declared.entries.Entry as lent
 use Rattle.node.specs.declared.Place.{Place}
 use Rattle.node.specs.declared.Message.{Message}
 use Rattle.node.specs.declared.Entry.{Entry}
-use Rattle.node.specs.declared.search.Latest.{Latest}
-
--- the latest, as the definition has it
-unfoldable pub latest_in : List ℕ → Latest → Said
-latest_in s Latest.Nothing = nothing
-latest_in s Latest.Gone = says none
-latest_in s (Latest.Value p) = says (some (part s p))
-
-unfoldable pub LatestFits : ℕ → Latest → Type 0
-LatestFits n Latest.Nothing = Unit
-LatestFits n Latest.Gone = Unit
-LatestFits n (Latest.Value p) = Within 0 n p
 
 -- what an entry says of a rest
 unfoldable pub entry_says : defined.Entry → List ℕ → Said
@@ -30,54 +21,6 @@ entry_says (defined.message m) rest = says_of m rest
 unfoldable pub newest_among : List defined.Entry → List ℕ → Said
 newest_among [] rest = nothing
 newest_among (e ∷ es) rest = newer (entry_says e rest) (newest_among es rest)
-
-unfoldable pub said_by : List ℕ → Latest → Message → List ℕ → Said
-said_by s best m rest = newer (latest_in s best) (says_of (message_in s m) rest)
-
-unfoldable pub said : List ℕ → Latest → Entry → List ℕ → Said
-said s best e rest = newer (latest_in s best) (entry_says (entry_in s e) rest)
-
--- an answer that says x
-pub record LatestIs (s : List ℕ) (x : Said) (r : Latest) : Type 0 where
-  pub meant : latest_in s r ≡ x
-  pub fits : LatestFits (length s) r
-
-module _ (s : List ℕ) (best : Latest) (rest : List ℕ) where
-  pub put-yes : (p v : Place) (b : Bool) → b ≡ same (part s p) rest → b ≡ true → Within 0 (length s) v → LatestIs s (said_by s best (Message.Put p v) rest) (Latest.Value v)
-  unfolding said_by says_of latest_in LatestFits newer
-  put-yes p v b e h w = record { meant = rw (sym e ∙ h); fits = w }
-
-  pub put-no : (p v : Place) (b : Bool) → b ≡ same (part s p) rest → b ≡ false → LatestFits (length s) best → LatestIs s (said_by s best (Message.Put p v) rest) best
-  unfolding said_by says_of newer
-  put-no p v b e h w = record { meant = rw (sym e ∙ h); fits = w }
-
-  pub drop-yes : (p : Place) (b : Bool) → b ≡ same (part s p) rest → b ≡ true → LatestIs s (said_by s best (Message.Drop p) rest) Latest.Gone
-  unfolding said_by says_of latest_in LatestFits newer
-  drop-yes p b e h = record { meant = rw (sym e ∙ h); fits = tt }
-
-  pub drop-no : (p : Place) (b : Bool) → b ≡ same (part s p) rest → b ≡ false → LatestFits (length s) best → LatestIs s (said_by s best (Message.Drop p) rest) best
-  unfolding said_by says_of newer
-  drop-no p b e h w = record { meant = rw (sym e ∙ h); fits = w }
-
-  pub clear-yes : (p : Place) (b : Bool) → b ≡ begins (part s p) rest → b ≡ true → LatestIs s (said_by s best (Message.Clear p) rest) Latest.Gone
-  unfolding said_by says_of latest_in LatestFits newer
-  clear-yes p b e h = record { meant = rw (sym e ∙ h); fits = tt }
-
-  pub clear-no : (p : Place) (b : Bool) → b ≡ begins (part s p) rest → b ≡ false → LatestFits (length s) best → LatestIs s (said_by s best (Message.Clear p) rest) best
-  unfolding said_by says_of newer
-  clear-no p b e h w = record { meant = rw (sym e ∙ h); fits = w }
-
-  pub latest-pair : (p v : Place) → LatestFits (length s) best → LatestIs s (said s best (Entry.Pair p v) rest) best
-  unfolding said entry_says newer
-  latest-pair p v w = record { meant = refl; fits = w }
-
-  pub latest-child : (i : ℕ) (p : Place) → LatestFits (length s) best → LatestIs s (said s best (Entry.Child i p) rest) best
-  unfolding said entry_says newer
-  latest-child i p w = record { meant = refl; fits = w }
-
-  pub latest-on : (m : Message) (r : Latest) → LatestIs s (said_by s best m rest) r → LatestIs s (said s best (Entry.Message m) rest) r
-  unfolding said said_by entry_says
-  latest-on m r h = h
 
 -- the loop: the latest so far, then the entries left, say what all the entries say
 pub newer-nothing : (x : Said) → newer nothing x ≡ x
@@ -90,21 +33,46 @@ unfolding newer
 newer-assoc a b nothing = refl
 newer-assoc a b (says v) = refl
 
-pub latest-start : (s : List ℕ) (es : List defined.Entry) (rest : List ℕ) → newer (latest_in s Latest.Nothing) (newest_among es rest) ≡ newest_among es rest
-unfolding latest_in
-latest-start s es rest = newer-nothing (newest_among es rest)
+-- what an entry that is lent says
+other-silent : (e : lent.Entry) (rest : List ℕ) → ((m : spoken.Message) → e ≡ lent.Entry.Message m → ⊥) → entry_says (entry_is e) rest ≡ nothing
+unfolding entry_says
+other-silent (lent.Entry.Pair k v) rest h = refl
+other-silent (lent.Entry.Child i k) rest h = refl
+other-silent (lent.Entry.Message m) rest h = absurd (h m refl)
 
-pub latest-step : (s : List ℕ) (best r : Latest) (e : Entry) (es ts : List defined.Entry) (rest : List ℕ) (answer : Said) → es ≡ entry_in s e ∷ ts
-    → LatestIs s (said s best e rest) r → newer (latest_in s best) (newest_among es rest) ≡ answer → newer (latest_in s r) (newest_among ts rest) ≡ answer
-unfolding newest_among said
-latest-step s best r e es ts rest answer q h inv =
-    let w : newer (latest_in s best) (newer (entry_says (entry_in s e) rest) (newest_among ts rest)) ≡ answer = rw q at inv in
-    rw h.meant (sym (newer-assoc (latest_in s best) (entry_says (entry_in s e) rest) (newest_among ts rest)) ∙ w)
+message-says : (e : lent.Entry) (m : spoken.Message) (rest : List ℕ) → e ≡ lent.Entry.Message m → entry_says (entry_is e) rest ≡ says_of (message_is m) rest
+unfolding entry_says
+message-says e m rest q = rw q
 
-pub latest-end : (s : List ℕ) (best : Latest) (es : List defined.Entry) (rest : List ℕ) (answer : Said) → es ≡ []
-    → newer (latest_in s best) (newest_among es rest) ≡ answer → latest_in s best ≡ answer
+-- the steps of the loop
+pub latest-start : (es : List defined.Entry) (rest : List ℕ) → newer nothing (newest_among es rest) ≡ newest_among es rest
+latest-start es rest = newer-nothing (newest_among es rest)
+
+pub latest-end : (best answer : Said) (es : List defined.Entry) (rest : List ℕ) → es ≡ [] → newer best (newest_among es rest) ≡ answer → best ≡ answer
 unfolding newest_among newer
-latest-end s best es rest answer q inv = rw q at inv
+latest-end best answer es rest q inv = rw q at inv
+
+module _ (best answer : Said) (es ts : List defined.Entry) (rest : List ℕ) (e : lent.Entry) (q : es ≡ entry_is e ∷ ts) (inv : newer best (newest_among es rest) ≡ answer) where
+  step-says : (x : Said) → entry_says (entry_is e) rest ≡ x → newer best (newer x (newest_among ts rest)) ≡ answer
+  unfolding newest_among
+  step-says x h = rw (q, h) at inv
+
+  silent-step : entry_says (entry_is e) rest ≡ nothing → newer best (newest_among ts rest) ≡ answer
+  silent-step h = ap (newer best) (sym (newer-nothing (newest_among ts rest))) ∙ step-says nothing h
+
+  pub other-step : ((m : spoken.Message) → e ≡ lent.Entry.Message m → ⊥) → newer best (newest_among ts rest) ≡ answer
+  other-step h = silent-step (other-silent e rest h)
+
+  module _ (m : spoken.Message) (f : e ≡ lent.Entry.Message m) where
+    pub quiet-step : nothing ≡ says_of (message_is m) rest → newer best (newest_among ts rest) ≡ answer
+    quiet-step h = silent-step (message-says e m rest f ∙ sym h)
+
+    pub said-step : (v : Option (List ℕ)) → says v ≡ says_of (message_is m) rest → newer (says v) (newest_among ts rest) ≡ answer
+    said-step v h =
+        ap (λ x. newer x (newest_among ts rest)) (last v) ∙ sym (newer-assoc best (says v) (newest_among ts rest)) ∙ step-says (says v) (message-says e m rest f ∙ sym h)
+      where
+        last : (v : Option (List ℕ)) → says v ≡ newer best (says v)
+        last v = unfold newer in refl
 
 -- what the places of a message and of an entry keep to
 pub put-places : (n : ℕ) (m : Message) (p v : Place) → MessageWithin 0 n m → m ≡ Message.Put p v → Within 0 n p × Within 0 n v
@@ -118,16 +86,6 @@ clear-places n m p w e = subst (MessageWithin 0 n) e w
 
 pub message-places : (n : ℕ) (e : Entry) (m : Message) → EntryWithin 0 n e → e ≡ Entry.Message m → MessageWithin 0 n m
 message-places n e m w q = subst (EntryWithin 0 n) q w
-
-pub as-message : (s : List ℕ) (best : Latest) (rest : List ℕ) (m q : Message) (r : Latest) → m ≡ q → LatestIs s (said_by s best q rest) r → LatestIs s (said_by s best m rest) r
-as-message s best rest m q r e h = rw e h
-
-pub as-entry : (s : List ℕ) (best : Latest) (rest : List ℕ) (m q : Entry) (r : Latest) → m ≡ q → LatestIs s (said s best q rest) r → LatestIs s (said s best m rest) r
-as-entry s best rest m q r e h = rw e h
-
-pub uncovered-fits : (n : ℕ) → LatestFits n Latest.Nothing
-unfolding LatestFits
-uncovered-fits n = tt
 
 -- whether anything is said
 unfoldable pub covers : Said → Bool
@@ -169,14 +127,3 @@ quiet : (x : Said) → covers x ≡ false → x ≡ nothing
 unfolding covers
 quiet nothing g = refl
 quiet (says v) g = absurd (true≢false g)
-
--- an entry that does not cover the rest may be passed
-pub uncovered-step : (s : List ℕ) (best : Latest) (b : Bool) (e : Entry) (es ts : List defined.Entry) (rest : List ℕ) (answer : Said) → es ≡ entry_in s e ∷ ts
-    → b ≡ covers (entry_says (entry_in s e) rest) → b ≡ false
-    → newer (latest_in s best) (newest_among es rest) ≡ answer → newer (latest_in s best) (newest_among ts rest) ≡ answer
-unfolding newest_among
-uncovered-step s best b e es ts rest answer q h f inv =
-    let w : newer (latest_in s best) (newer (entry_says (entry_in s e) rest) (newest_among ts rest)) ≡ answer = rw q at inv in
-    let z : entry_says (entry_in s e) rest ≡ nothing = quiet (entry_says (entry_in s e) rest) (sym h ∙ f) in
-    let y : newer (entry_says (entry_in s e) rest) (newest_among ts rest) ≡ newest_among ts rest = ap (λ x. newer x (newest_among ts rest)) z ∙ newer-nothing (newest_among ts rest) in
-    ap (newer (latest_in s best)) (sym y) ∙ w

@@ -1,6 +1,7 @@
 -- The child that owns a rest.
 use Rattle.std.specs.Prelude.{ℕ, ◌≡◌, refl, List, [], ◌∷◌, Bool, true, false, cond, length}
-use Rattle.image.specs.Prelude.{sym, ap, subst, ◌∙◌, Option, none, some, arith}
+use Rattle.std.specs.Prelude as found
+use Rattle.image.specs.Prelude.{ap, subst, ◌∙◌, Option, none, some, arith}
 use Rattle.image.specs.Path.{owns}
 use Rattle.image.specs.Entry as defined
 use Rattle.image.specs.Image as image
@@ -9,7 +10,7 @@ use Rattle.node.specs.Places.{part, entry_in, Within, EntryWithin}
 use Rattle.node.specs.declared.Place.{Place}
 use Rattle.node.specs.declared.Message.{Message}
 use Rattle.node.specs.declared.Entry.{Entry}
-use Rattle.node.specs.declared.search.Owner.{Owner}
+use Rattle.node.specs.declared.branches.Branch as span
 use Rattle.node.specs.declared.search.Branch.{Branch}
 
 abbrev pub branch : ℕ → List ℕ → image.Branch
@@ -40,19 +41,10 @@ unfoldable pub owner_of : List image.Branch → List ℕ → List ℕ → Option
 owner_of [] hi rest = none
 owner_of (k ∷ ks) hi rest = cond (owns k.pivot (branch_high hi ks) rest) (some (range k.number k.pivot (branch_high hi ks))) (owner_of ks hi rest)
 
-unfoldable pub owner_in : List ℕ → List ℕ → Owner → Option Range
-owner_in s hi (Owner.Inner i p q) = some (range i (part s p) (part s q))
-owner_in s hi (Owner.Last i p) = some (range i (part s p) hi)
-owner_in s hi Owner.Nobody = none
-
-unfoldable pub OwnerFits : ℕ → Owner → Type 0
-OwnerFits n (Owner.Inner i p q) = Within 0 n p × Within 0 n q
-OwnerFits n (Owner.Last i p) = Within 0 n p
-OwnerFits n Owner.Nobody = Unit
-
-pub record Owned (s hi : List ℕ) (x : Option Range) (r : Owner) : Type 0 where
-  pub meant : owner_in s hi r ≡ x
-  pub fits : OwnerFits (length s) r
+-- an owner found
+abbrev pub owner_is : found.Option span.Branch → Option Range
+owner_is found.None = none
+owner_is (found.Some b) = some (range b.number b.low.now b.high.now)
 
 -- the entry is a child, or is none
 pub pair-branch : (e : Entry) (p v : Place) → e ≡ Entry.Pair p v → Branch.Other ≡ branch_is e
@@ -93,38 +85,3 @@ pub branches-more : (e : Entry) (i : ℕ) (p : Place) (s : List ℕ) (es ts : Li
     → branches_among es ≡ branch i (part s p) ∷ branches_among ts
 unfolding branches_among
 branches-more e i p s es ts q h = rw (q, child-entry e i p h)
-
--- the owner, a child at a time
-module _ (s hi rest : List ℕ) (i : ℕ) (p : Place) where
-  pub last-yes : (b : Bool) → b ≡ owns (part s p) hi rest → b ≡ true → Within 0 (length s) p → Owned s hi (owner_of (branch i (part s p) ∷ []) hi rest) (Owner.Last i p)
-  unfolding owner_of owner_in OwnerFits branch_high
-  last-yes b e h w = record { meant = rw (sym e ∙ h); fits = w }
-
-  pub last-no : (b : Bool) → b ≡ owns (part s p) hi rest → b ≡ false → Owned s hi (owner_of (branch i (part s p) ∷ []) hi rest) Owner.Nobody
-  unfolding owner_of owner_in OwnerFits branch_high
-  last-no b e h = record { meant = rw (sym e ∙ h); fits = tt }
-
-  pub at_last : (ks : List image.Branch) (answer : Option Range) (r : Owner) → ks ≡ [] → owner_of (branch i (part s p) ∷ ks) hi rest ≡ answer
-      → Owned s hi (owner_of (branch i (part s p) ∷ []) hi rest) r → Owned s hi answer r
-  at_last ks answer r q inv o = record { meant = o.meant ∙ ap (λ l. owner_of (branch i (part s p) ∷ l) hi rest) (sym q) ∙ inv; fits = o.fits }
-
-  pub inner-yes : (k : ℕ) (t : Place) (ks us : List image.Branch) (answer : Option Range) (b : Bool) → ks ≡ branch k (part s t) ∷ us → b ≡ owns (part s p) (part s t) rest → b ≡ true
-      → owner_of (branch i (part s p) ∷ ks) hi rest ≡ answer → Within 0 (length s) p → Within 0 (length s) t → Owned s hi answer (Owner.Inner i p t)
-  unfolding owner_of owner_in OwnerFits branch_high
-  inner-yes k t ks us answer b q e h inv w v =
-      let z : cond (owns (part s p) (part s t) rest) (some (range i (part s p) (part s t))) (owner_of (branch k (part s t) ∷ us) hi rest) ≡ answer = rw q at inv in
-      record { meant = rw (sym e ∙ h) at z; fits = (w, v) }
-
-  pub inner-no : (k : ℕ) (t : Place) (ks us : List image.Branch) (answer : Option Range) (b : Bool) → ks ≡ branch k (part s t) ∷ us → b ≡ owns (part s p) (part s t) rest → b ≡ false
-      → owner_of (branch i (part s p) ∷ ks) hi rest ≡ answer → owner_of (branch k (part s t) ∷ us) hi rest ≡ answer
-  unfolding owner_of branch_high
-  inner-no k t ks us answer b q e h inv =
-      let z : cond (owns (part s p) (part s t) rest) (some (range i (part s p) (part s t))) (owner_of (branch k (part s t) ∷ us) hi rest) ≡ answer = rw q at inv in
-      rw (sym e ∙ h) at z
-
-pub nobody-is : (s hi rest : List ℕ) (ks : List image.Branch) → ks ≡ [] → Owned s hi (owner_of ks hi rest) Owner.Nobody
-unfolding owner_of owner_in OwnerFits
-nobody-is s hi rest ks q = record { meant = rw q; fits = tt }
-
-pub as-branches : (s hi rest : List ℕ) (ks us : List image.Branch) (r : Owner) → ks ≡ us → Owned s hi (owner_of us hi rest) r → Owned s hi (owner_of ks hi rest) r
-as-branches s hi rest ks us r q h = rw q h

@@ -4,6 +4,7 @@ use Rattle.std.proofs.Common.{ap, not}
 use Rattle.image.specs.Prelude.{arith}
 use Rattle.laws.specs.Page.{zeros_of}
 use Rattle.push.specs.NodeSteps.{node_in, node-short, apart, children-short, uncovered, rooms, small, stays-long, all_done, no_room}
+use Rattle.node.specs.Entries.{listed}
 use Rattle.push.proofs.push_node.Goals as goal
 
 pub overflow_mul-at : goal.overflow_mul-at
@@ -21,11 +22,11 @@ overflow_add-end c = let i = node_in c.args.store.now c.args.num c.args.hi.now c
 pub slice_bounds-copy_at-end-2 : goal.slice_bounds-copy_at-end-2
 slice_bounds-copy_at-end-2 c = let i = node_in c.args.store.now c.args.num c.args.hi.now c.requires in let f = node-short c.args.store.now c.args.num c.args.hi.now c.requires in omega arith
 
-pub has_messages-requires : goal.has_messages-requires
-has_messages-requires c = let i = node_in c.args.store.now c.args.num c.args.hi.now c.requires in let f = node-short c.args.store.now c.args.num c.args.hi.now c.requires in omega arith
+pub slice_bounds-entries-end : goal.slice_bounds-entries-end
+slice_bounds-entries-end c = let i = node_in c.args.store.now c.args.num c.args.hi.now c.requires in let f = node-short c.args.store.now c.args.num c.args.hi.now c.requires in omega arith
 
 pub returns-then-not-has_messages : goal.returns-then-not-has_messages
-unfolding zeros_of
+unfolding zeros_of listed
 returns-then-not-has_messages c = uncovered c.args.store.now c.args.num c.args.hi.now c.requires c.read_length-len.result c.read_length-len.ensures.0 _ c.copy_at.ensures _ c.has_messages.ensures (ap not c.if-not-has_messages.true)
 
 pub all_fit-requires : goal.all_fit-requires

@@ -2,15 +2,14 @@
 -- Relies on specs/Steps.
 use Rattle.std.proofs.Common.{rules, ap, not}
 use Rattle.live_count.specs.Steps.{same-trail, longer-trail}
-use Rattle.node.specs.Places.{entries-inside}
 use Rattle.std.specs.Prelude.{◌≡◌, length}
 use Rattle.live_count.proofs.visibility.lengthen_trail.Goals as goal
 
-pub has_messages-requires : goal.has_messages-requires
-has_messages-requires c = (entries-inside c.args.store.now c.args.num c.entries_of-c.result c.entries_of-c.ensures (c.requires.2.inside, c.requires.2.fits)).2
+pub of_node-requires : goal.of_node-requires
+of_node-requires c = (c.requires.2.inside, c.requires.2.fits)
 
 pub returns-then-not-has_messages : goal.returns-then-not-has_messages
-returns-then-not-has_messages c = same-trail c.args.store.now c.args.num _ _ c.requires.1 c.requires.0 c.entries_of-c.result _ c.entries_of-c.ensures c.has_messages.ensures (ap not c.if-not-has_messages.true)
+returns-then-not-has_messages c = same-trail c.args.store.now c.args.num _ _ c.requires.1 c.requires.0 _ _ c.of_node.ensures.lists c.has_messages.ensures (ap not c.if-not-has_messages.true)
 
 pub returns : goal.returns
 returns c = let n : length c.args.trail.nodes ≡ 8 = search rules in

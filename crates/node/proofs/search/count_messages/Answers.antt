@@ -1,38 +1,12 @@
--- `search::count_messages` meets its contract: those counted and those left are all. The measure is the bytes left.
--- Relies on specs/Search/Messages and on the contract of the cursor.
-use Rattle.node.specs.Places.{Next, step-bad-is, step-read-is}
-use Rattle.node.specs.Entries.{listed-end}
-use Rattle.node.specs.Search.Messages.{count-end, count-here, count-on}
-use Rattle.std.specs.Prelude.{refl}
-use Rattle.image.specs.Prelude.{arith, ◌∙◌}
+-- `search::count_messages` meets its contract: the count stays below the bytes, of which there are not too many. Relies on specs/Search/Messages.
+use Rattle.image.specs.Prelude.{arith}
+use Rattle.node.specs.Search.Messages.{messages-few, one-more}
 use Rattle.node.proofs.search.count_messages.Goals as goal
 
--- the entry that was read, and where it leaves the cursor
-
-pub loop-c-init : goal.loop-c-init
-loop-c-init c = (refl, omega arith, omega arith)
-
-pub step-requires : goal.step-requires
-step-requires c = omega arith
-
-pub returns-in_default : goal.returns-in_default
-returns-in_default c = count-end _ _ _ (step-bad-is _ _ _ _ c.step.ensures c.in_default.is).1 c.loop-c.invariant.2
-
-pub loop-c-smaller-then-is_message : goal.loop-c-smaller-then-is_message
-loop-c-smaller-then-is_message c = let next-is : Next c.args.store.now c.loop-c.c.at c.loop-c.c.end c.in-Read.e c.in-Read.next = step-read-is _ _ _ _ _ _ c.step.ensures c.in-Read.is in
-    let n = next-is in omega arith
-
-pub loop-c-preserved-then-is_message : goal.loop-c-preserved-then-is_message
-loop-c-preserved-then-is_message c = let next-is : Next c.args.store.now c.loop-c.c.at c.loop-c.c.end c.in-Read.e c.in-Read.next = step-read-is _ _ _ _ _ _ c.step.ensures c.in-Read.is in
-    let n = next-is in (n.ends ∙ c.loop-c.invariant.0, omega arith, count-here c.args.store.now c.in-Read.e _ _ _ _ _ n.lists (c.is_message.ensures c.args.store.now) c.loop-c.invariant.2 c.if-is_message.true)
-
-pub loop-c-smaller : goal.loop-c-smaller
-loop-c-smaller c = let next-is : Next c.args.store.now c.loop-c.c.at c.loop-c.c.end c.in-Read.e c.in-Read.next = step-read-is _ _ _ _ _ _ c.step.ensures c.in-Read.is in
-    let n = next-is in omega arith
-
-pub loop-c-preserved : goal.loop-c-preserved
-loop-c-preserved c = let next-is : Next c.args.store.now c.loop-c.c.at c.loop-c.c.end c.in-Read.e c.in-Read.next = step-read-is _ _ _ _ _ _ c.step.ensures c.in-Read.is in
-    let n = next-is in (n.ends ∙ c.loop-c.invariant.0, omega arith, count-on c.args.store.now c.in-Read.e _ _ _ _ _ n.lists (c.is_message.ensures c.args.store.now) c.loop-c.invariant.2 c.if-is_message.false)
-
-pub returns : goal.returns
-returns c = count-end _ _ _ (listed-end _ _ _ (omega arith)) c.loop-c.invariant.2
+pub overflow_add-count : goal.overflow_add-count
+overflow_add-count c =
+    let few = messages-few c.args.entries.rest.now in
+    let more = one-more _ _ _ _ c.in-Some.ensures.steps c.in-Message.is in
+    let all = c.loop-entry.invariant in
+    let fits = c.ranges.entries in
+    omega arith

@@ -1,12 +1,8 @@
--- The loop of `has_messages`: none of the entries passed is a message. The measure is the bytes left. Relies on specs/Entries and
--- specs/Search/Messages.
-use Rattle.node.specs.Entries.{listed}
+-- The loop of `has_messages`: a message is among the entries left if one is among all. Relies on specs/Search/Messages.
+use Rattle.std.specs.Prelude.{◌≡◌}
+use Rattle.node.specs.Lent.{left_of}
 use Rattle.node.specs.Search.Messages.{has_message}
-use Rattle.std.specs.Prelude.{◌-◌, ◌≡◌}
 use Rattle.node.proofs.search.has_messages.Given as goal
 
-abbrev pub invariant-loop-c : goal.invariant-loop-c
-invariant-loop-c l = (l.c.end ≡ l.end) × (has_message (listed l.store l.c.at l.c.end) ≡ has_message (listed l.store l.from l.end))
-
-abbrev pub decreases-loop-c : goal.decreases-loop-c
-decreases-loop-c l = l.end - l.c.at
+abbrev pub invariant-loop-entry : goal.invariant-loop-entry
+invariant-loop-entry l = has_message (left_of l.entry-iterator) ≡ has_message (left_of l.fn.entries)

@@ -23,13 +23,12 @@ loop-entry-preserved-then-not-is_live c = let o = insert-open _ _ _ _ _ _ _ _ c.
 pub extend-full-requires : goal.extend-full-requires
 extend-full-requires c = let z : length c.args.prefix.bytes ≡ 64 = search rules in let r = c.requires.0 in key-short c.args.prefix c.args.trail.now _ _ c.is_live.ensures c.if-not-is_live.false (omega arith)
 
-pub shared_ref_as_front-insert_row : goal.shared_ref_as_front-insert_row
-shared_ref_as_front-insert_row c = let z : length c.args.prefix.bytes ≡ 64 = search rules in let r = c.requires.0 in
+pub shared_ref_as_front-row : goal.shared_ref_as_front-row
+shared_ref_as_front-row c = let z : length c.args.prefix.bytes ≡ 64 = search rules in let r = c.requires.0 in
     let k = key-short c.args.prefix c.args.trail.now _ _ c.is_live.ensures c.if-not-is_live.false (omega arith) in let e = c.extend-full.ensures.1 in omega arith
 
-pub insert_row-requires : goal.insert_row-requires
-unfolding path_in
-insert_row-requires c =
+pub invariant_of-row : goal.invariant_of-row
+invariant_of-row c =
     let o = insert-open _ _ _ _ _ _ _ _ c.loop-entry.invariant _ _ c.in-Some.ensures.steps in
     let z : length c.args.prefix.bytes ≡ 64 = search rules in
     let y : length c.extend-full.result.bytes ≡ 64 = search rules in
@@ -37,10 +36,18 @@ insert_row-requires c =
     let k = key-short c.args.prefix c.args.trail.now _ _ c.is_live.ensures c.if-not-is_live.false (omega arith) in
     let e = c.extend-full.ensures.1 in
     let l = length-take-le c.extend-full.result.len c.extend-full.result.bytes (omega arith) in
-    (o.fit, o.ahead,
+    record { path_short = omega arith; value_short = value-short _ (put-value _ (entry_is c.in-Some.entry) _ _ _ _ _ o _ _ c.in-Some-put_of.ensures) }
+
+pub insert_row-requires : goal.insert_row-requires
+unfolding path_in
+insert_row-requires c =
+    let o = insert-open _ _ _ _ _ _ _ _ c.loop-entry.invariant _ _ c.in-Some.ensures.steps in (
+      o.fit,
+      o.ahead,
       put-room _ (entry_is c.in-Some.entry) _ _ _ _ _ o _ _ c.in-Some-put_of.ensures _ _ c.none_covers.ensures c.if-not-none_covers.false c.is_live.ensures c.if-not-is_live.false,
-      omega arith, value-short _ (put-value _ (entry_is c.in-Some.entry) _ _ _ _ _ o _ _ c.in-Some-put_of.ensures), o.untold.rises,
-      rw c.extend-full.ensures.0 (put-absent _ (entry_is c.in-Some.entry) _ _ _ _ _ o _ _ c.in-Some-put_of.ensures))
+      o.untold.rises,
+      rw c.extend-full.ensures.0 (put-absent _ (entry_is c.in-Some.entry) _ _ _ _ _ o _ _ c.in-Some-put_of.ensures),
+    )
 
 pub loop-entry-preserved : goal.loop-entry-preserved
 unfolding path_in

@@ -2,7 +2,7 @@
 -- Relies on Below, Judge and Shorter.
 use Rattle.std.specs.Prelude.{ℕ, ◌<◌, ◌≤◌, ◌≡◌, refl, List, [], Bool, true, false, not, length, drop, leb, ltb}
 use Rattle.std.specs.Prelude as found
-use Rattle.image.specs.Prelude.{sym, ap, ap₂, ◌∙◌, le-leb, lt-leb, le-ltb, lt-ltb, leb-true, leb-false, cases}
+use Rattle.image.specs.Prelude.{sym, ap, ap₂, ◌∙◌, le-leb, lt-leb}
 use Rattle.image.specs.Bytes.{same, begins}
 use Rattle.image.specs.Path.{well_formed, proper_beginning, may_move}
 use Rattle.image.specs.Table.{Row, rows_below, least_after, moved, every_key, rising}
@@ -49,20 +49,16 @@ eight_is s from o ok e = handed-back from (table_of s) o (table-formed s ok) (ta
 -- QUESTION 9
 -- no path is handed back of those whose rests do not go on
 pub rests-are : (s from : List ℕ) (sh : Shape) (o : found.Option (List ℕ)) → sound s ≡ true → buffer_is o ≡ least_after from [] (keep (unfit (shape_is sh) from) (table_of s))
-    → found.is_none o ≡ rests_fit (shape_is sh) from (table_of s)
+    → (r : Bool) → found.is_some o ≡ not r → r ≡ rests_fit (shape_is sh) from (table_of s)
 unfolding rests_fit rest_fits unfit
-rests-are s from sh o ok e =
-    none-or-some o
+rests-are s from sh o ok e r h =
+    sym (ap not h ∙ twice r)
     ∙ ap not
     (handed-back from (keep (λ k. not (defined.goes_on (shape_is sh) (drop (length from) k))) (table_of s)) o
     (keep-passes well_formed _ well_formed (table_of s) (λ q a b. a) (table-formed s ok)) (keep-rises _ (table_of s) (table-rises s ok)) e)
     ∙ twice (is_empty (rows_below from (keep (λ k. not (defined.goes_on (shape_is sh) (drop (length from) k))) (table_of s))))
     ∙ none-fails (λ k. defined.goes_on (shape_is sh) (drop (length from) k)) from (table_of s)
   where
-    none-or-some : (o : found.Option (List ℕ)) → found.is_none o ≡ not (found.is_some o)
-    none-or-some found.None = refl
-    none-or-some (found.Some k) = refl
-
     twice : (x : Bool) → not (not x) ≡ x
     twice true = refl
     twice false = refl

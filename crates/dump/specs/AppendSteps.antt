@@ -1,6 +1,6 @@
 -- The steps of the append: one pair's row, and the loop over a leaf's entries. Relies on what put_row promises (packed: RowPut) and on what the
 -- tests of `live_count` promise.
-use Rattle.std.specs.Prelude.{ℕ, ◌+◌, ◌*◌, ◌-◌, ◌≤◌, ◌≡◌, refl, List, [], ◌∷◌, ◌++◌, Bool, true, false, ◌&&◌, length, leb}
+use Rattle.std.specs.Prelude.{ℕ, ◌+◌, ◌*◌, ◌≤◌, ◌≡◌, refl, List, [], ◌∷◌, ◌++◌, Bool, true, false, ◌&&◌, length, leb}
 use Rattle.image.specs.Prelude.{sym, ap, subst, ◌∙◌, append-nil, append_assoc, true≢false, arith, length-append, leb-true, leb-false}
 use Rattle.image.specs.Path.{value_fits}
 use Rattle.image.specs.Entry as defined

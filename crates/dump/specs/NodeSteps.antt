@@ -1,6 +1,6 @@
 -- The steps of the walk's two functions that call each other: what each call asks, and what each exit owes.
 -- Relies on TreeLaws and on the steps of the append and of the insertion.
-use Rattle.std.specs.Prelude.{ℕ, ◌+◌, ◌-◌, ◌<◌, ◌≤◌, ◌≡◌, refl, List, [], ◌∷◌, ◌++◌, Bool, true, ◌&&◌, length, take, drop}
+use Rattle.std.specs.Prelude.{ℕ, ◌+◌, ◌-◌, ◌<◌, ◌≤◌, ◌≡◌, refl, List, [], ◌∷◌, ◌++◌, Bool, true, ◌&&◌, length, drop}
 use Rattle.image.specs.Prelude.{sym, ap, ap₂, subst, ◌∙◌, append-nil, append_assoc, arith}
 use Rattle.image.specs.Bytes.{shared}
 use Rattle.image.specs.Entry.{Entry}

@@ -14,7 +14,7 @@ use Rattle.node.specs.declared.entries.Message.{Message}
 use Rattle.node.specs.declared.entries.Entry.{Entry}
 use Rattle.live_count.specs.Notes.Notes.{NoPut}
 use Rattle.live_count.specs.Live.{short}
-use Rattle.dump.specs.Insertion.Insertion.{Apart, Laid, laid}
+use Rattle.dump.specs.Insertion.Insertion.{Laid, laid}
 use Rattle.dump.specs.Insertion.Merge.{with-more}
 use Rattle.dump.specs.Dump.{with_entry}
 use Rattle.dump.specs.AppendSteps.{value-short}

@@ -67,7 +67,13 @@ fn append_pairs(area: &mut [u8], first: usize, entries: Entries, here: &Position
 
 // The puts among entries, each as a row at its place among the rows from `first` on if no later entry of its node and no message above says anything
 // of its path. There is no such row yet.
-fn insert_puts(area: &mut [u8], first: usize, entries: Entries, prefix: PathBuffer, trail: &Trail) -> usize
+fn insert_puts(
+    area: &mut [u8],
+    first: usize,
+    entries: Entries,
+    prefix: PathBuffer,
+    trail: &Trail,
+) -> usize
     requires { (prefix.len ≤ 64)
         × LiftsWithin prefix.len trail.now
         × Open area.old first first (passing trail.now) (path_in prefix) (left_of entries) }
@@ -125,7 +131,14 @@ fn dump_node<'a>(
     }
     let high = &node.high[lifted..];
     here.enter(entries, &node.low[lifted..], high);
-    let r = dump_children(store, area, m, level - 1, Branches::among(entries, high), here);
+    let r = dump_children(
+        store,
+        area,
+        m,
+        level - 1,
+        Branches::among(entries, high),
+        here,
+    );
     let all = insert_puts(area, r, entries, here.prefix, &above.trail);
     insertion::merge_rows(area, m, r, all);
     all
@@ -173,7 +186,14 @@ fn dump_putting(store: &[u8], area: &mut [u8], level: usize, root: usize) -> usi
 {
     let entries = Entries::of_node(store, root);
     let above = Position::new();
-    let m = dump_children(store, area, 0, level - 1, Branches::among(entries, &[255]), &above);
+    let m = dump_children(
+        store,
+        area,
+        0,
+        level - 1,
+        Branches::among(entries, &[255]),
+        &above,
+    );
     let all = replacing::set_puts(area, m, entries);
     insertion::merge_rows(area, 0, m, all);
     all

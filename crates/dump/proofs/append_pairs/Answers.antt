@@ -1,7 +1,6 @@
 -- The loop over a leaf's pairs: the rows so far and those of the entries left make all (specs/AppendSteps).
 use Rattle.image.specs.Prelude.{sym, subst}
 use Rattle.live_count.specs.Steps.{leaf-key, leaf-rest, leaf-other}
-use Rattle.node.specs.Lent.{entry_is}
 use Rattle.dump.specs.Dump.{Room}
 use Rattle.dump.specs.AppendSteps.{added-as, append-first, append-end, append-room, append-next, values-first, pair-rows, pair-value}
 use Rattle.dump.proofs.append_pairs.Goals as goal

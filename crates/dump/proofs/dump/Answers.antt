@@ -21,11 +21,12 @@ pub dump_putting-requires : goal.dump_putting-requires
 dump_putting-requires c = (c.read_root-number.ensures.0, c.read_levels-level.ensures.0, c.requires.0, c.requires.1, omega arith, ap only_puts (sym c.of_node.ensures.lists) ∙ sym c.only_puts.ensures ∙ c.if-only_puts.true)
 
 pub dump_node-requires : goal.dump_node-requires
-dump_node-requires c =
-    (dump-ready c.args.store.now c.requires.0 _ _ c.read_root-number.ensures.0 c.read_levels-level.ensures.0 _ c.new-above.ensures.trail,
-      dump-sound c.args.store.now c.requires.0 _ _ c.read_root-number.ensures.0 c.read_levels-level.ensures.0 _ c.new-above.ensures.prefix _ _ refl refl,
-      dump-room c.args.store.now c.requires.0 _ _ c.read_root-number.ensures.0 c.read_levels-level.ensures.0 _ c.new-above.ensures.prefix _ _ refl refl c.new-above.result.trail c.new-above.ensures.trail _ c.requires.1,
-      root_told c.new-above.result _ _ c.new-above.ensures)
+dump_node-requires c = (
+  dump-ready c.args.store.now c.requires.0 _ _ c.read_root-number.ensures.0 c.read_levels-level.ensures.0 _ c.new-above.ensures.trail,
+  dump-sound c.args.store.now c.requires.0 _ _ c.read_root-number.ensures.0 c.read_levels-level.ensures.0 _ c.new-above.ensures.prefix _ _ refl refl,
+  dump-room c.args.store.now c.requires.0 _ _ c.read_root-number.ensures.0 c.read_levels-level.ensures.0 _ c.new-above.ensures.prefix _ _ refl refl c.new-above.result.trail c.new-above.ensures.trail _ c.requires.1,
+  root_told c.new-above.result _ _ c.new-above.ensures,
+)
 
 pub returns : goal.returns
 returns c = dump-done c.args.store.now c.requires.0 _ _ c.read_root-number.ensures.0 c.read_levels-level.ensures.0 _ c.new-above.ensures.prefix _ _ refl refl c.new-above.result.trail c.new-above.ensures.trail _ _ _ c.dump_node.ensures

@@ -36,11 +36,15 @@ insert_row-requires c =
     let r = c.requires.0 in
     let k = key-short c.args.prefix c.args.trail.now _ _ c.is_live.ensures c.if-not-is_live.false (omega arith) in
     let e = c.extend-full.ensures.1 in
-    let l = length-take-le c.extend-full.result.len c.extend-full.result.bytes (omega arith) in
-    (o.fit, o.ahead,
+    let l = length-take-le c.extend-full.result.len c.extend-full.result.bytes (omega arith) in (
+      o.fit,
+      o.ahead,
       put-room _ (entry_is c.in-Some.entry) _ _ _ _ _ o _ _ c.in-Some-put_of.ensures _ _ c.none_covers.ensures c.if-not-none_covers.false c.is_live.ensures c.if-not-is_live.false,
-      omega arith, value-short _ (put-value _ (entry_is c.in-Some.entry) _ _ _ _ _ o _ _ c.in-Some-put_of.ensures), o.untold.rises,
-      rw c.extend-full.ensures.0 (put-absent _ (entry_is c.in-Some.entry) _ _ _ _ _ o _ _ c.in-Some-put_of.ensures))
+      omega arith,
+      value-short _ (put-value _ (entry_is c.in-Some.entry) _ _ _ _ _ o _ _ c.in-Some-put_of.ensures),
+      o.untold.rises,
+      rw c.extend-full.ensures.0 (put-absent _ (entry_is c.in-Some.entry) _ _ _ _ _ o _ _ c.in-Some-put_of.ensures),
+    )
 
 pub loop-entry-preserved : goal.loop-entry-preserved
 unfolding path_in

@@ -1,9 +1,9 @@
 -- Step lemmas of the walk's two functions that call each other: what each exit owes, and what each call asks.
 -- Relies on WalkLaws and on the definitions of Walk and Noted.
-use Rattle.std.specs.Prelude.{ℕ, ◌+◌, ◌-◌, ◌*◌, ◌<◌, ◌≤◌, ◌≡◌, refl, List, [], ◌∷◌, ◌++◌, Bool, true, ◌&&◌, length, take, drop}
+use Rattle.std.specs.Prelude.{ℕ, ◌+◌, ◌-◌, ◌*◌, ◌<◌, ◌≤◌, ◌≡◌, List, ◌++◌, true, ◌&&◌, length, drop}
 use Rattle.image.specs.Prelude.{sym, ap, ap₂, ◌∙◌, arith}
 use Rattle.image.specs.Bytes.{u16, shared}
-use Rattle.image.specs.Image.{Tree, Branch, nodes_of, forest_of, tree_at}
+use Rattle.image.specs.Image.{Branch, nodes_of, forest_of, tree_at}
 use Rattle.octets.specs.Cap.{cap, cap-small, cap-add}
 use Rattle.laws.specs.Reading.Relative.{lifts, usable, usable_in}
 use Rattle.node.specs.Cut.{cut, cut-length}

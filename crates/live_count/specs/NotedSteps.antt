@@ -1,8 +1,8 @@
 -- Step lemmas of the count by notes that are handed down. Relies on the definitions of Noted and on the contracts of notes.
-use Rattle.std.specs.Prelude.{ℕ, zero, suc, ◌+◌, ◌-◌, ◌<◌, ◌≤◌, ◌≡◌, refl, List, [], ◌∷◌, ◌++◌, Bool, true, false, ◌&&◌, not, length, take, drop, get_or, Option, Some, None, IsSome, is_some, unwrap_or}
+use Rattle.std.specs.Prelude.{ℕ, suc, ◌+◌, ◌<◌, ◌≤◌, ◌≡◌, refl, List, [], ◌∷◌, ◌++◌, Bool, true, ◌&&◌, length, take, drop, get_or, IsSome, is_some, unwrap_or}
 use Rattle.std.specs.List.{list_all, All}
 use Rattle.std.proofs.lemmas.List.Folds.{list_all_more}
-use Rattle.image.specs.Prelude.{sym, ap, ap₂, ◌∙◌, append_assoc, true≢false, false≢true, and-true, arith, length-append, drop-append-le, drop_at, take_all}
+use Rattle.image.specs.Prelude.{sym, ap, ap₂, ◌∙◌, append_assoc, arith, length-append, drop-append-le, drop_at, take_all}
 use Rattle.image.specs.Bytes.{shared}
 use Rattle.image.specs.Path.{owns}
 use Rattle.image.specs.Entry as defined
@@ -10,8 +10,7 @@ use Rattle.octets.specs.Beginnings.{shared-left, shared-right, shared-take}
 use Rattle.octets.specs.Order.{before-append, begins-split, and_assoc}
 use Rattle.node.specs.Lent.{left_of}
 use Rattle.node.specs.Search.Latest.{newest_among}
-use Rattle.lookup.specs.Look.{part-rest}
-use Rattle.live_count.specs.Notes.Notes.{quiet, silent, kept, Empty, Gathered, none_covers}
+use Rattle.live_count.specs.Notes.Notes.{quiet, silent, Empty, Gathered, none_covers}
 use Rattle.live_count.specs.Notes.Steps.{uncovered-all, gathered-more}
 use Rattle.live_count.specs.Live.{holds_no_message, short}
 use Rattle.live_count.specs.Walk.{stages_of, says_nothing, passes, passing, LiftsWithin, Deeper}
@@ -21,7 +20,6 @@ use Rattle.live_count.specs.PathBuffers.{path_in}
 use Rattle.node.specs.declared.PathBuffer.{PathBuffer}
 use Rattle.live_count.specs.declared.notes.Notes.{Notes}
 use Rattle.live_count.specs.declared.trail.Stage.{Stage}
-use Rattle.live_count.specs.declared.trail.Trail.{Trail}
 use Rattle.live_count.specs.declared.position.Position.{Position}
 
 -- no message of a node of a trail is on the path of a key under the prefix

@@ -1,14 +1,14 @@
 -- The tree stays sound on the way down, so that the keys of a leaf are its own, and notes that tell of a node tell of its children.
 -- Relies on the definitions of Noted and on the laws of sound trees (laws: LookupTable, Filter, Reading's Relative).
-use Rattle.std.specs.Prelude.{ℕ, ◌+◌, ◌-◌, ◌<◌, ◌≤◌, ◌≡◌, refl, List, [], ◌∷◌, ◌++◌, Bool, true, false, ◌&&◌, length, take, drop}
+use Rattle.std.specs.Prelude.{ℕ, ◌-◌, ◌≤◌, ◌≡◌, refl, List, [], ◌∷◌, ◌++◌, Bool, true, false, ◌&&◌, length, drop}
 use Rattle.image.specs.Prelude.{sym, ap, ap₂, ◌∙◌, append_assoc, false≢true, Option, none, some, arith}
 use Rattle.image.specs.Bytes.{shared}
 use Rattle.image.specs.Path.{well_formed, owns}
 use Rattle.image.specs.Entry as defined
 use Rattle.image.specs.Table.{Row, every_key, under_prefix}
-use Rattle.image.specs.Image.{Tree, leaf, interior, Forest, tree, Branch, nodes_of, pair_then, pairs_of, forest_of, tree_at, tree_of}
+use Rattle.image.specs.Image.{Tree, leaf, interior, Forest, tree, Branch, nodes_of, pair_then, pairs_of, forest_of, tree_at}
 use Rattle.image.specs.Meaning.{high_of}
-use Rattle.image.specs.Sound.{sound_tree, sound_forest, lowest, highest}
+use Rattle.image.specs.Sound.{sound_tree, sound_forest}
 use Rattle.octets.specs.Beginnings.{shared-left, shared-right}
 use Rattle.octets.specs.Order.{and_left, and_right, shared-append, begins-split}
 use Rattle.laws.specs.Rising.{both}
@@ -23,7 +23,6 @@ use Rattle.live_count.specs.Live.{short}
 use Rattle.live_count.specs.NotedSteps.{owns-under}
 use Rattle.live_count.specs.Noted.{keyed, Tells, Standing, Entered, LeafTold, SoundNode, SoundBranches}
 use Rattle.live_count.specs.PathBuffers.{path_in}
-use Rattle.node.specs.declared.PathBuffer.{PathBuffer}
 use Rattle.live_count.specs.declared.position.Position.{Position}
 
 -- a child's range lies in its node's

@@ -1,5 +1,5 @@
 -- What the code of the walk carries down, and the count of a node's own entries, as the readers list them. Definitions only.
-use Rattle.std.specs.Prelude.{ℕ, ◌+◌, ◌<◌, ◌≤◌, ◌≡◌, List, [], ◌∷◌, ◌++◌, Bool, true, false, ◌&&◌, length, take, drop}
+use Rattle.std.specs.Prelude.{ℕ, ◌+◌, ◌≤◌, ◌≡◌, List, [], ◌∷◌, ◌++◌, Bool, true, false, ◌&&◌, length, take, drop}
 use Rattle.std.specs.List.{list_all, All}
 use Rattle.image.specs.Entry as defined
 use Rattle.image.specs.Image.{Branch, header_of, tree_of, tree_at, nodes_of, forest_of}

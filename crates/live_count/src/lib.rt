@@ -61,7 +61,13 @@ pub fn count_leaf(entries: Entries, here: &Position) -> usize
 // How many entries under a node decide a path that passes the trail. The pivots lack what the parent lifts, which is the prefix above; `here` is
 // where the walk stands at the node then.
 #[cycle(count_children_count_node)]
-pub fn count_node<'a>(store: &'a [u8], level: usize, node: Branch<'a>, above: &Position<'a>, here: &mut Position<'a>) -> usize
+pub fn count_node<'a>(
+    store: &'a [u8],
+    level: usize,
+    node: Branch<'a>,
+    above: &Position<'a>,
+    here: &mut Position<'a>,
+) -> usize
     requires { Ready store.now level node.number above.now.trail
         × SoundNode store.now level node.number above.now.prefix node.low.now node.high.now
         × Tells above.now node.low.now node.high.now }
@@ -88,7 +94,12 @@ pub fn count_node<'a>(store: &'a [u8], level: usize, node: Branch<'a>, above: &P
 
 // The same for the children of a node.
 #[cycle(count_children_count_node)]
-pub fn count_children<'a>(store: &'a [u8], level: usize, children: Branches<'a>, here: &Position<'a>) -> usize
+pub fn count_children<'a>(
+    store: &'a [u8],
+    level: usize,
+    children: Branches<'a>,
+    here: &Position<'a>,
+) -> usize
     requires { ReadyBranches store.now level (pending_of children) here.now.trail
         × SoundBranches store.now level (pending_of children) children.high.now here.now }
     ensures { (result

@@ -106,7 +106,8 @@ impl<'a> Position<'a> {
         self.trail = above.trail;
         if above.notes.count.is_some() {
             self.notes.clear();
-            self.notes.add_notes(&above.notes, &Keys { after, low, high });
+            self.notes
+                .add_notes(&above.notes, &Keys { after, low, high });
             return Some(lifted);
         }
         self.note_trail(low, high);

@@ -21,5 +21,5 @@ abbrev pub invariant-count_children-loop-child : goal.invariant-count_children-l
 invariant-count_children-loop-child l = (l.total ≤ 65535) × (l.child-iterator.high.now ≡ l.fn.children.high.now)
     × (usable_in (nodes_of (length l.store)) (forest_of (λ j. tree_at l.level l.store j) (pending_of l.child-iterator)) ≡ true)
     × (cap (l.total + live_branches (forest_of (λ j. tree_at l.level l.store j) (pending_of l.child-iterator)) (passing l.here.trail) (path_in l.here.prefix) l.fn.children.high.now)
-      ≡ cap (live_branches (forest_of (λ j. tree_at l.level l.store j) (pending_of l.fn.children)) (passing l.here.trail) (path_in l.here.prefix) l.fn.children.high.now))
+    ≡ cap (live_branches (forest_of (λ j. tree_at l.level l.store j) (pending_of l.fn.children)) (passing l.here.trail) (path_in l.here.prefix) l.fn.children.high.now))
     × SoundBranches l.store l.level (pending_of l.child-iterator) l.fn.children.high.now l.here

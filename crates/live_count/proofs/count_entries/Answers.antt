@@ -1,8 +1,6 @@
 -- `count_entries` meets its contract: the count so far and that of the entries left make the count of all. Relies on specs/Steps.
-use Rattle.std.proofs.Common.{rules}
-use Rattle.std.specs.Prelude.{◌≡◌, ◌+◌, length}
+use Rattle.std.specs.Prelude.{length}
 use Rattle.image.specs.Prelude.{arith, ap}
-use Rattle.node.specs.Lent.{left_of}
 use Rattle.live_count.specs.Steps.{count-end, count-on, count-past, few-left}
 use Rattle.live_count.proofs.count_entries.Goals as goal
 

@@ -11,14 +11,18 @@ pub overflow_add-count : goal.overflow_add-count
 overflow_add-count c = let f = few-left c.args.entries in let a = ap length c.in-Some.ensures.steps in let r = c.ranges.entries in omega (arith, c.loop-entry.invariant.0)
 
 pub loop-entry-preserved-then-shows : goal.loop-entry-preserved-then-shows
-loop-entry-preserved-then-shows c = let a = ap length c.in-Some.ensures.steps in
-    (omega (arith, c.loop-entry.invariant.0), count-on _ _ _ _ _ _ _ _ c.in-Some.ensures.steps (pair-decides _ _ _ _ _ _ _ c.in-Pair.is c.shows.ensures) c.loop-entry.invariant.1 c.if-shows.true,
-    leaf-rest _ _ _ _ c.in-Some.ensures.steps c.loop-entry.invariant.2 _ _ c.in-Pair.is)
+loop-entry-preserved-then-shows c = let a = ap length c.in-Some.ensures.steps in (
+  omega (arith, c.loop-entry.invariant.0),
+  count-on _ _ _ _ _ _ _ _ c.in-Some.ensures.steps (pair-decides _ _ _ _ _ _ _ c.in-Pair.is c.shows.ensures) c.loop-entry.invariant.1 c.if-shows.true,
+  leaf-rest _ _ _ _ c.in-Some.ensures.steps c.loop-entry.invariant.2 _ _ c.in-Pair.is,
+)
 
 pub loop-entry-preserved-else-shows : goal.loop-entry-preserved-else-shows
-loop-entry-preserved-else-shows c = let a = ap length c.in-Some.ensures.steps in
-    (omega (arith, c.loop-entry.invariant.0), count-past _ _ _ _ _ _ _ _ c.in-Some.ensures.steps (pair-decides _ _ _ _ _ _ _ c.in-Pair.is c.shows.ensures) c.loop-entry.invariant.1 c.if-shows.false,
-    leaf-rest _ _ _ _ c.in-Some.ensures.steps c.loop-entry.invariant.2 _ _ c.in-Pair.is)
+loop-entry-preserved-else-shows c = let a = ap length c.in-Some.ensures.steps in (
+  omega (arith, c.loop-entry.invariant.0),
+  count-past _ _ _ _ _ _ _ _ c.in-Some.ensures.steps (pair-decides _ _ _ _ _ _ _ c.in-Pair.is c.shows.ensures) c.loop-entry.invariant.1 c.if-shows.false,
+  leaf-rest _ _ _ _ c.in-Some.ensures.steps c.loop-entry.invariant.2 _ _ c.in-Pair.is,
+)
 
 pub loop-entry-preserved : goal.loop-entry-preserved
 loop-entry-preserved c = absurd (leaf-other _ _ _ _ c.in-Some.ensures.steps c.loop-entry.invariant.2 c.in_default.not-Pair)

@@ -1,13 +1,12 @@
 -- Step lemmas of the functions on one note: what each exit owes.
-use Rattle.std.specs.Prelude.{ℕ, zero, suc, ◌+◌, ◌-◌, ◌<◌, ◌≤◌, ◌≡◌, refl, List, [], ◌∷◌, ◌++◌, Bool, true, false, ◌&&◌, not, cond, length, drop, take, set, leb, eqb}
-use Rattle.image.specs.Prelude.{sym, ap, ap₂, ◌∙◌, true≢false, false≢true, and-true, arith, Option, none, some, eqb-true, length-drop, add-one, take-suc-set, leb-true, leb-false}
+use Rattle.std.specs.Prelude.{ℕ, zero, suc, ◌+◌, ◌<◌, ◌≤◌, ◌≡◌, refl, List, [], ◌∷◌, ◌++◌, Bool, true, false, ◌&&◌, not, cond, length, drop, take, set, leb, eqb}
+use Rattle.image.specs.Prelude.{sym, ap, ap₂, ◌∙◌, true≢false, false≢true, arith, Option, none, some, eqb-true, length-drop, add-one, take-suc-set, leb-true, leb-false}
 use Rattle.image.specs.Bytes.{same, before, begins, shared}
 use Rattle.image.specs.Meaning.{nothing, says, says_of}
 use Rattle.image.specs.Path.{owns}
-use Rattle.octets.specs.Order.{and-false, not_so, not-true, same-eq, same_false, before-le, before-total, before-asym, between-begins, begins-trans, begins-append, same-append}
+use Rattle.octets.specs.Order.{and-false, not_so, same-eq, same_false, before-le, before-total, before-asym, between-begins, begins-trans, begins-append, same-append}
 use Rattle.octets.specs.Beginnings.{begins-refl, begins-length, shared-right, shared-most, begins-not-before}
 use Rattle.laws.specs.LookupTable.{not_low, under-high}
-use Rattle.laws.specs.RowsRising.{is_true}
 use Rattle.std.proofs.Math.Bool.{beq}
 use Rattle.std.specs.Borrow.{Bor}
 use Rattle.node.specs.Lent.{entry_is}

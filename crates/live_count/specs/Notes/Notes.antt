@@ -1,5 +1,5 @@
 -- Notes of messages: what a note says of a key, and what it is to note the messages of a node for a leaf. Definitions only.
-use Rattle.std.specs.Prelude.{ℕ, ◌<◌, ◌≤◌, ◌≡◌, List, [], ◌∷◌, ◌++◌, Bool, true, false, ◌&&◌, not, length, take, Option, Some, None, IsSome, unwrap_or}
+use Rattle.std.specs.Prelude.{ℕ, ◌≡◌, List, [], ◌∷◌, ◌++◌, Bool, true, false, ◌&&◌, not, take, Some, IsSome, unwrap_or}
 use Rattle.std.specs.List.{list_all}
 use Rattle.image.specs.Bytes.{same, before, begins}
 use Rattle.image.specs.Path.{owns}

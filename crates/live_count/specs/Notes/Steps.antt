@@ -1,7 +1,6 @@
 -- Step lemmas of the functions that note the messages of a node, and of those that hold entries against a rest.
-use Rattle.std.specs.Prelude.{ℕ, ◌+◌, ◌<◌, ◌≤◌, ◌≡◌, refl, List, [], ◌∷◌, ◌++◌, Bool, true, false, ◌&&◌, not, length, take, get_or, Option, Some, None, IsSome}
-use Rattle.std.specs.List.{list_all}
-use Rattle.image.specs.Prelude.{sym, ap, ap₂, ◌∙◌, true≢false, false≢true, and-true, arith}
+use Rattle.std.specs.Prelude.{ℕ, ◌+◌, ◌<◌, ◌≡◌, refl, List, [], ◌∷◌, ◌++◌, Bool, true, false, ◌&&◌, not, length, take, get_or, IsSome}
+use Rattle.image.specs.Prelude.{sym, ap, ◌∙◌, and-true}
 use Rattle.image.specs.Path.{owns}
 use Rattle.image.specs.Entry as defined
 use Rattle.image.specs.Meaning.{Said, nothing, says, newer}

@@ -1,7 +1,7 @@
 -- `narrow` meets its contract, exit by exit. Relies on specs/Notes/Apart.
 use Rattle.std.proofs.Common.{rules}
 use Rattle.std.specs.Prelude.{◌-◌, length, take, drop}
-use Rattle.image.specs.Prelude.{arith, sym, ap, ◌∙◌, true≢false, not-true}
+use Rattle.image.specs.Prelude.{arith, sym, ap, ◌∙◌, true≢false}
 use Rattle.lookup.specs.Look.{part-rest}
 use Rattle.image.specs.Bytes.{before}
 use Rattle.live_count.specs.Notes.Apart.{all-cleared, apart, high-off, low-off, told}

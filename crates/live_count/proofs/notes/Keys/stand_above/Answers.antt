@@ -1,6 +1,5 @@
 -- `stand_above` meets its contract. Relies on specs/Notes/Apart.
-use Rattle.std.specs.Prelude.{true, false}
-use Rattle.image.specs.Prelude.{sym, ap, ◌∙◌, true≢false, false≢true, not-true}
+use Rattle.image.specs.Prelude.{sym, ◌∙◌, true≢false, not-true}
 use Rattle.live_count.specs.Notes.Apart.{misses-by}
 use Rattle.live_count.proofs.notes.Keys.stand_above.Goals.{then-note, else-note}
 use Rattle.live_count.proofs.notes.Keys.stand_above.Goals as goal

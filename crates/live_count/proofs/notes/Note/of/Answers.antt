@@ -8,7 +8,7 @@ returns-in_default c = unnoted _ c.in_default.not-Message
 
 pub returns : goal.returns
 returns c = elim c.match-message.branch [
-    | in-Put w ↦ put-noted _ _ c.in-Message.is _ _ _ w.in-Put.is w.result-is
-    | in-Drop w ↦ drop-noted _ _ c.in-Message.is _ _ w.in-Drop.is w.result-is
-    | in-Clear w ↦ clear-noted _ _ c.in-Message.is _ _ w.in-Clear.is w.result-is
-  ]
+  | in-Put w ↦ put-noted _ _ c.in-Message.is _ _ _ w.in-Put.is w.result-is
+  | in-Drop w ↦ drop-noted _ _ c.in-Message.is _ _ w.in-Drop.is w.result-is
+  | in-Clear w ↦ clear-noted _ _ c.in-Message.is _ _ w.in-Clear.is w.result-is
+]

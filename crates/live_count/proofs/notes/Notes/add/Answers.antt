@@ -5,4 +5,3 @@ use Rattle.live_count.proofs.notes.Notes.add.Goals as goal
 
 pub returns-in-Some : goal.returns-in-Some
 returns-in-Some c = add-one-note _ _ _ c.args.note (note_covers c.in-Some.rest) _ _ c.in-Some.ensures c.push.ensures
-

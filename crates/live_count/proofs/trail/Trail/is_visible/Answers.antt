@@ -1,8 +1,4 @@
 -- `is_visible` meets its contract: the nodes one by one, up to the first that has a message on the path. Relies on specs/Steps.
-use Rattle.std.specs.Prelude.{◌≡◌, length}
-use Rattle.image.specs.Prelude.{arith, sym, ap, ◌∙◌}
-use Rattle.lookup.specs.Look.{part-rest}
-use Rattle.live_count.specs.Walk.{passes}
 use Rattle.live_count.specs.Steps.{hidden, seen}
 use Rattle.live_count.proofs.trail.Trail.is_visible.Goals as goal
 

@@ -1,6 +1,5 @@
 -- `push` meets its contract. Relies on specs/Notes/Apart.
-use Rattle.std.proofs.Common.{rules}
-use Rattle.std.specs.Prelude.{◌≡◌, refl, length}
+use Rattle.std.specs.Prelude.{refl}
 use Rattle.image.specs.Prelude.{arith}
 use Rattle.live_count.specs.Notes.Apart.{take-pushed}
 use Rattle.live_count.proofs.trail.Trail.push.Goals as goal

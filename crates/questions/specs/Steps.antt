@@ -1,10 +1,10 @@
 -- The steps of ask: one law for each way out of the code.
 -- Relies on questions' Callers for the number of each refusal, and on what soundness promises.
-use Rattle.std.specs.Prelude.{ℕ, ◌*◌, ◌/◌, ◌<◌, ◌≤◌, ◌≡◌, List, Bool, true, false, length, Ok, Err}
+use Rattle.std.specs.Prelude.{ℕ, ◌*◌, ◌/◌, ◌<◌, ◌≤◌, ◌≡◌, List, Bool, true, false, length, Ok, Err, None, Some}
 use Rattle.image.specs.Prelude.{sym, ◌∙◌}
 use Rattle.image.specs.Image.{nodes_of, whole_nodes}
 use Rattle.image.specs.declared.Refusal.{Refusal}
-use Rattle.tree_check.specs.declared.Checked.{Checked}
+use Rattle.tree_check.specs.Answer.{Checked}
 use Rattle.tree_check.specs.declared.Tally.{Tally}
 use Rattle.soundness.specs.Judged.{Judged, verdict-yes, verdict-no}
 use Rattle.questions.specs.Callers.{ragged-number, short-number, unsound-number}
@@ -20,10 +20,10 @@ module _ (s w seen : List ℕ) where
   short-work h = λ c l. short-number s l h
 
   module _ (x : Bool) (x-is : x ≡ whole_nodes (length s)) (x-yes : x ≡ true) (long : 128 * (length s / 1024) ≤ length w) (v : Checked) (j : Judged s v seen) where
-    pub unsound-store : v ≡ Checked.Unsound → Asked s w seen (Err Refusal.Unsound)
+    pub unsound-store : v ≡ None → Asked s w seen (Err Refusal.Unsound)
     unfolding Asked nodes_of
     unsound-store e = λ c l. unsound-number s l (sym x-is ∙ x-yes) long (sym (verdict-no s seen v j e))
 
-    pub sound-store : (t : Tally) → v ≡ Checked.Sound t → Asked s w seen (Ok t)
+    pub sound-store : (t : Tally) → v ≡ Some t → Asked s w seen (Ok t)
     unfolding Asked nodes_of
     sound-store t e = record { whole = sym x-is ∙ x-yes; long = long; is_sound = sym (verdict-yes s seen v t j e); holds = j.holds t e }

@@ -50,15 +50,13 @@ fn put_piece(
     let middle = path.stop;
     let from = value.start;
     let stop = value.stop;
-    let seen = [0u8; 1024];
     let terms = Terms {
         waiting,
-        marked: false,
+        marks: None,
     };
     edit::put_fit(
         store,
         work,
-        &seen,
         &calls[start..middle],
         &calls[from..stop],
         terms,
@@ -77,12 +75,11 @@ fn drop_piece(
 {
     let start = path.start;
     let stop = path.stop;
-    let seen = [0u8; 1024];
     let terms = Terms {
         waiting,
-        marked: false,
+        marks: None,
     };
-    edit::drop_fit(store, work, &seen, &calls[start..stop], terms)
+    edit::drop_fit(store, work, &calls[start..stop], terms)
 }
 
 fn clear_piece(
@@ -97,12 +94,11 @@ fn clear_piece(
 {
     let start = path.start;
     let stop = path.stop;
-    let seen = [0u8; 1024];
     let terms = Terms {
         waiting,
-        marked: false,
+        marks: None,
     };
-    edit::clear_fit(store, work, &seen, &calls[start..stop], terms)
+    edit::clear_fit(store, work, &calls[start..stop], terms)
 }
 
 fn move_piece(

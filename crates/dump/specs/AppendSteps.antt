@@ -1,34 +1,27 @@
 -- The steps of the append: one pair's row, and the loop over a leaf's entries. Relies on what put_row promises (packed: RowPut) and on what the
 -- tests of `live_count` promise.
-use Rattle.std.specs.Prelude.{ℕ, ◌+◌, ◌*◌, ◌-◌, ◌≤◌, ◌≡◌, refl, List, [], ◌∷◌, ◌++◌, Bool, true, false, ◌&&◌, not, length, take, drop, leb}
-use Rattle.image.specs.Prelude.{sym, ap, subst, ◌∙◌, append-nil, append_assoc, true≢false, arith, length-append, not-true, not-false, leb-true, leb-false}
-use Rattle.image.specs.Path.{value_fits, owns}
+use Rattle.std.specs.Prelude.{ℕ, ◌+◌, ◌*◌, ◌≤◌, ◌≡◌, refl, List, [], ◌∷◌, ◌++◌, Bool, true, false, ◌&&◌, length, leb}
+use Rattle.image.specs.Prelude.{sym, ap, subst, ◌∙◌, append-nil, append_assoc, true≢false, arith, length-append, leb-true, leb-false}
+use Rattle.image.specs.Path.{value_fits}
 use Rattle.image.specs.Entry as defined
 use Rattle.image.specs.Table.{Row, under_prefix}
 use Rattle.octets.specs.Order.{and_left, and_right}
-use Rattle.laws.specs.Rising.{both}
 use Rattle.laws.specs.Shift.{under-append}
 use Rattle.laws.specs.Filter.{keep, keep_append}
 use Rattle.packed.specs.Form.Leaves.{value_length}
-use Rattle.node.specs.Places.{part, entry_in}
-use Rattle.node.specs.declared.Place.{Place}
-use Rattle.node.specs.declared.Entry.{Entry}
-use Rattle.node.specs.declared.search.Pair.{Pair}
-use Rattle.node.specs.Entries.{listed}
-use Rattle.node.specs.Search.Pairs.{pair_is}
-use Rattle.node.specs.Search.PairSteps.{Unpaired, unread, unlike}
+use Rattle.std.specs.Borrow.{Bor}
+use Rattle.node.specs.Lent.{entry_is}
+use Rattle.node.specs.declared.entries.Entry.{Entry}
 use Rattle.packed.specs.Rows.Area.{rows_of, RowsFit}
 use Rattle.packed.specs.Build.Rows.{RowPut}
-use Rattle.live_count.specs.Notes.Notes.{quiet}
-use Rattle.live_count.specs.Live.{Shortens, short}
+use Rattle.live_count.specs.Live.{Shortens}
 use Rattle.live_count.specs.PathBuffers.{path_in}
 use Rattle.live_count.specs.PathSteps.{path_length}
 use Rattle.node.specs.declared.PathBuffer.{PathBuffer}
-use Rattle.live_count.specs.declared.visibility.Trail.{Trail}
-use Rattle.live_count.specs.Noted.{keyed, LeafTold}
+use Rattle.live_count.specs.declared.trail.Trail.{Trail}
 use Rattle.live_count.specs.Walk.{passing}
-use Rattle.live_count.specs.Steps.{passes-short, as-path}
-use Rattle.dump.specs.Dump.{row_in, pairs_among, entry_value_fits, values_fit_among, Room, Added, KeyTold}
+use Rattle.live_count.specs.Steps.{passes-short}
+use Rattle.dump.specs.Dump.{row_under, pairs_among, entry_value_fits, values_fit_among, Room, Added}
 
 -- ROWS ADDED
 pub added_none : (m : ℕ) (area : List ℕ) (t : List Row) → t ≡ [] → RowsFit m area → Added m area area m t
@@ -68,27 +61,20 @@ room-rest a b m n t u w e r x =
 
 -- ONE PAIR
 -- a path that passes is short
-pub passing-short : (s : List ℕ) (t : Trail) (q : List ℕ) → passing s t q ≡ true → length q ≤ 64
+pub passing-short : (t : Trail) (q : List ℕ) → passing t q ≡ true → length q ≤ 64
 unfolding Shortens
-passing-short s t q e = go (leb (length q) 64) refl
+passing-short t q e = go (leb (length q) 64) refl
   where
     go : (x : Bool) → leb (length q) 64 ≡ x → length q ≤ 64
     go true f = leb-true (length q) 64 f
-    go false f = absurd (true≢false (sym e ∙ passes-short s t q (leb-false (length q) 64 f)))
+    go false f = absurd (true≢false (sym e ∙ passes-short t q (leb-false (length q) 64 f)))
 
 -- a path that passes has room in a buffer
-module _ (s : List ℕ) (p : PathBuffer) (t : Trail) (k : List ℕ) (b : Bool) (e : b ≡ passing s t (path_in p ++ k)) (n : not b ≡ false) (h : p.len ≤ length p.bytes) where
-  pub key-short : p.len + length k ≤ 64
-  key-short =
-      let a = passing-short s t (path_in p ++ k) (sym e ∙ not-false b n) in
-      let c : length (path_in p ++ k) ≡ p.len + length k = length-append (path_in p) k ∙ ap (λ j. j + length k) (path_length p h) in
-      omega arith
-
-  pub joined-short : length (take (p.len - 0) (drop 0 p.bytes)) + length k ≤ 64
-  joined-short = let a = key-short in let c : length (take (p.len - 0) (drop 0 p.bytes)) ≡ p.len = ap length (as-path p p.len p.bytes refl refl) ∙ path_length p h in omega arith
-
-  pub full-short : (full : PathBuffer) → full.len ≡ p.len + length k → full.len ≤ 64
-  full-short full f = let a = key-short in omega arith
+pub key-short : (p : PathBuffer) (t : Trail) (k : List ℕ) (b : Bool) → b ≡ passing t (path_in p ++ k) → b ≡ true → p.len ≤ length p.bytes → p.len + length k ≤ 64
+key-short p t k b e n h =
+    let a = passing-short t (path_in p ++ k) (sym e ∙ n) in
+    let c : length (path_in p ++ k) ≡ p.len + length k = length-append (path_in p) k ∙ ap (λ j. j + length k) (path_length p h) in
+    omega arith
 
 keep_one : (ok : List ℕ → Bool) (r : Row) → ok r.key ≡ true → keep ok (r ∷ []) ≡ r ∷ []
 unfolding keep
@@ -98,94 +84,39 @@ keep-not : (ok : List ℕ → Bool) (r : Row) → ok r.key ≡ false → keep ok
 unfolding keep
 keep-not ok r e = rw e
 
-module _ (s : List ℕ) (p : PathBuffer) (t : Trail) (k v : Place) (area : List ℕ) (m : ℕ) (b : Bool) (e : b ≡ passing s t (path_in p ++ part s k))
-    (room : Room area m (keep (passing s t) (row_in s p k v ∷ []))) where
-  pub pair-hidden : not b ≡ true → Added m area area m (keep (passing s t) (row_in s p k v ∷ []))
-  pair-hidden n = added_none m area (keep (passing s t) (row_in s p k v ∷ [])) (keep-not (passing s t) (row_in s p k v) (sym e ∙ not-true b n)) room.fit
+module _ (p : PathBuffer) (t : Trail) (k v : List ℕ) (area : List ℕ) (m : ℕ) (b : Bool) (e : b ≡ passing t (path_in p ++ k))
+    (room : Room area m (keep (passing t) (row_under p k v ∷ []))) where
+  pub pair-hidden : b ≡ false → Added m area area m (keep (passing t) (row_under p k v ∷ []))
+  pair-hidden n = added_none m area (keep (passing t) (row_under p k v ∷ [])) (keep-not (passing t) (row_under p k v) (sym e ∙ n)) room.fit
 
-  module _ (n : not b ≡ false) where
-    passed : passing s t (path_in p ++ part s k) ≡ true
-    passed = sym e ∙ not-false b n
-
-    kept : keep (passing s t) (row_in s p k v ∷ []) ≡ row_in s p k v ∷ []
-    kept = keep_one (passing s t) (row_in s p k v) passed
+  module _ (n : b ≡ true) where
+    kept : keep (passing t) (row_under p k v ∷ []) ≡ row_under p k v ∷ []
+    kept = keep_one (passing t) (row_under p k v) (sym e ∙ n)
 
     pub pair-room : m * 128 + 128 ≤ length area
-    pair-room = let r = room.room in let l : length (keep (passing s t) (row_in s p k v ∷ [])) ≡ 1 = ap length kept in omega arith
+    pair-room = let r = room.room in let l : length (keep (passing t) (row_under p k v ∷ [])) ≡ 1 = ap length kept in omega arith
 
-    pub pair-added : (area' : List ℕ) → length area' ≡ length area
-        → RowPut m area area' (take (p.len - 0) (drop 0 p.bytes) ++ part s k) (part s v) → Added m area area' (m + 1) (keep (passing s t) (row_in s p k v ∷ []))
+    pub pair-added : (area' : List ℕ) → length area' ≡ length area → RowPut m area area' (path_in p ++ k) v → Added m area area' (m + 1) (keep (passing t) (row_under p k v ∷ []))
     pair-added area' l put =
-        let key : take (p.len - 0) (drop 0 p.bytes) ++ part s k ≡ path_in p ++ part s k = ap (λ q. q ++ part s k) (as-path p p.len p.bytes refl refl) in
         record {
           fit = put.fit;
-          rows = put.rows ∙ ap (λ q. rows_of m area 0 ++ (record { key = q; value = part s v } ∷ [])) key ∙ ap (λ w. rows_of m area 0 ++ w) (sym kept);
-          count = let c : length (keep (passing s t) (row_in s p k v ∷ [])) ≡ 1 = ap length kept in omega arith;
+          rows = put.rows ∙ ap (λ w. rows_of m area 0 ++ w) (sym kept);
+          count = let c : length (keep (passing t) (row_under p k v ∷ [])) ≡ 1 = ap length kept in omega arith;
           size = l;
         }
-
-pub path-short : (full : PathBuffer) → full.len ≤ 64 → full.len ≤ length full.bytes → length (take (full.len - 0) (drop 0 full.bytes)) ≤ 64
-path-short full h l = rw (as-path full full.len full.bytes refl refl, path_length full l) (omega arith)
 
 pub value-short : (v : List ℕ) → value_fits v ≡ true → length v ≤ 60
 value-short v e = let m = value_length v e in omega arith
 
--- THE KEYS OF A LEAF AND THEIR NOTES
-module _ (s : List ℕ) (t : Trail) (prefix ns : List ℕ) (n : ℕ) where
-  keyed-first : (lo hi : List ℕ) (e : defined.Entry) (es : List defined.Entry) → keyed prefix lo hi (e ∷ es) ≡ true → keyed prefix lo hi (e ∷ []) ≡ true
-  unfolding keyed
-  keyed-first lo hi (defined.pair k v) es h = both {a = owns lo hi k && short (prefix ++ k)} (and_left (owns lo hi k && short (prefix ++ k)) (keyed prefix lo hi es) h) refl
-  keyed-first lo hi (defined.child i k) es h = h
-  keyed-first lo hi (defined.message m) es h = h
-
-  keyed-later : (lo hi : List ℕ) (e : defined.Entry) (es : List defined.Entry) → keyed prefix lo hi (e ∷ es) ≡ true → keyed prefix lo hi es ≡ true
-  unfolding keyed
-  keyed-later lo hi (defined.pair k v) es h = and_right (owns lo hi k && short (prefix ++ k)) _ h
-  keyed-later lo hi (defined.child i k) es h = absurd (true≢false (sym h))
-  keyed-later lo hi (defined.message m) es h = absurd (true≢false (sym h))
-
-  module _ (e : defined.Entry) (es ts : List defined.Entry) (q : es ≡ e ∷ ts) (h : LeafTold s t prefix es ns n) where
-    keys : keyed prefix h.lo h.hi (e ∷ ts) ≡ true
-    keys = ap (λ l. keyed prefix h.lo h.hi l) (sym q) ∙ h.keys
-
-    pub told-first : LeafTold s t prefix (e ∷ []) ns n
-    told-first = record { lo = h.lo; hi = h.hi; keys = keyed-first h.lo h.hi e ts keys; tells = h.tells }
-
-    pub told-later : LeafTold s t prefix ts ns n
-    told-later = record { lo = h.lo; hi = h.hi; keys = keyed-later h.lo h.hi e ts keys; tells = h.tells }
-
-  pub told-key : (k v : List ℕ) → LeafTold s t prefix (defined.pair k v ∷ []) ns n → KeyTold s t prefix k ns n
-  unfolding keyed
-  told-key k v h =
-      let a : owns h.lo h.hi k && short (prefix ++ k) ≡ true = and_left (owns h.lo h.hi k && short (prefix ++ k)) true h.keys in
-      record {
-        fits = h.tells.fits;
-        told = λ l.
-            h.tells.told l k (and_left (owns h.lo h.hi k) (short (prefix ++ k)) a)
-            ∙ ap (λ b. b && quiet s ns n k) (and_right (owns h.lo h.hi k) (short (prefix ++ k)) a);
-      }
-
--- a leaf has no other entries
-module _ (s : List ℕ) (t : Trail) (prefix ns : List ℕ) (n : ℕ) where
-  only-pairs : (e : Entry) (ts : List defined.Entry) → pair_is e ≡ Pair.Other → LeafTold s t prefix (entry_in s e ∷ ts) ns n → ⊥
-  unfolding pair_is keyed
-  only-pairs (Entry.Pair k v) ts q h = let z : ◌≡◌ {A = ℕ} 0 1 = cc in omega arith
-  only-pairs (Entry.Child i k) ts q h = true≢false (sym h.keys)
-  only-pairs (Entry.Message m) ts q h = true≢false (sym h.keys)
-
-  pub leaf-ends : (at end : ℕ) → Unpaired s at end → LeafTold s t prefix (listed s at end) ns n → listed s at end ≡ []
-  leaf-ends at end (unread f g) h = g
-  leaf-ends at end (unlike e c x o) h = absurd (only-pairs e (listed s c.at c.end) o (subst (λ es. LeafTold s t prefix es ns n) x.lists h))
-
 -- a pair as it is read
-module _ (s : List ℕ) (p : PathBuffer) (t : Trail) (k v : Place) where
-  pub pair-rows : keep (passing s t) (under_prefix (path_in p) (pairs_among (entry_in s (Entry.Pair k v) ∷ []))) ≡ keep (passing s t) (row_in s p k v ∷ [])
+module _ (p : PathBuffer) (t : Trail) (e : Entry) (k v : Bor (List ℕ)) (q : e ≡ Entry.Pair k v) where
+  pub pair-rows : keep (passing t) (under_prefix (path_in p) (pairs_among (entry_is e ∷ []))) ≡ keep (passing t) (row_under p k.now v.now ∷ [])
   unfolding under_prefix pairs_among
-  pair-rows = refl
+  pair-rows = rw q
 
-  pub pair-value : entry_value_fits (entry_in s (Entry.Pair k v)) ≡ true → value_fits (part s v) ≡ true
+  pub pair-value : entry_value_fits (entry_is e) ≡ true → value_fits v.now ≡ true
   unfolding entry_value_fits
-  pair-value h = h
+  pair-value h = rw q at h
 
 -- THE LOOP
 pairs-cons : (e : defined.Entry) (es : List defined.Entry) → pairs_among (e ∷ es) ≡ pairs_among (e ∷ []) ++ pairs_among es

@@ -4,24 +4,17 @@ use Rattle.std.specs.Prelude.{ℕ, ◌+◌, ◌*◌, ◌-◌, ◌≤◌, ◌≡�
 use Rattle.image.specs.Path.{value_fits}
 use Rattle.image.specs.Entry.{Entry, pair, child, message, puts, drops, clears}
 use Rattle.image.specs.Table.{Row, with_row, every_key, rising}
-use Rattle.image.specs.Image.{Branch, tree_at, forest_of}
-use Rattle.image.specs.Sound.{sound_forest, table_of}
-use Rattle.node.specs.Places.{part}
-use Rattle.node.specs.declared.Place.{Place}
-use Rattle.node.specs.declared.Cursor.{Cursor}
+use Rattle.image.specs.Sound.{table_of}
 use Rattle.node.specs.Search.Latest.{newest_among}
 use Rattle.packed.specs.Rows.Area.{rows_of, RowsFit}
-use Rattle.live_count.specs.Notes.Notes.{NotesFit, quiet}
 use Rattle.live_count.specs.Live.{holds_no_message}
-use Rattle.live_count.specs.Noted as noted
 use Rattle.live_count.specs.PathBuffers.{path_in}
 use Rattle.node.specs.declared.PathBuffer.{PathBuffer}
-use Rattle.live_count.specs.declared.visibility.Trail.{Trail}
-use Rattle.live_count.specs.Walk.{passing, decides}
+use Rattle.live_count.specs.Walk.{decides}
 
--- the row of a key and a value at places of the store, under a prefix
-abbrev pub row_in : List ℕ → PathBuffer → Place → Place → Row
-row_in s prefix k v = record { key = path_in prefix ++ part s k; value = part s v }
+-- the row of a key and a value under a prefix
+abbrev pub row_under : PathBuffer → List ℕ → List ℕ → Row
+row_under prefix k v = record { key = path_in prefix ++ k; value = v }
 
 -- the pairs among entries, as stored
 unfoldable pub pairs_among : List Entry → List Row
@@ -87,20 +80,6 @@ pub record Placed (first : ℕ) (area area' : List ℕ) (r : ℕ) (t : List Row)
   pub front : rows_of first area' 0 ≡ rows_of first area 0
   pub rows : rows_of (r - first) area' first ≡ t
   pub size : length area' ≡ length area
-
--- notes tell whether the path of a key of a leaf passes the trail; more than 64 notes tell nothing
-pub record KeyTold (s : List ℕ) (t : Trail) (lead k ns : List ℕ) (n : ℕ) : Type 0 where
-  pub fits : n ≤ 64 → NotesFit s ns n
-  pub told : n ≤ 64 → passing s t (lead ++ k) ≡ quiet s ns n k
-
--- children, from the one in hand on, of a sound node that lifts `lead`; hi is its high pivot without `lead`, low its low one
-pub record SoundBranches (s : List ℕ) (level : ℕ) (lead hi : List ℕ) (ks : List Branch) : Type 0 where
-  pub low : List ℕ
-  pub branches : sound_forest (forest_of (λ j. tree_at level s j) ks) lead low (lead ++ hi) ≡ true
-
--- notes tell of all that the node of the children owns, from the child in hand on
-abbrev pub BranchesTold : List ℕ → ℕ → ℕ → Place → Cursor → PathBuffer → List ℕ → Trail → List ℕ → ℕ → Type 0
-BranchesTold s level first pivot start p hi t ns n = noted.SoundBranches s level first pivot start p hi t ns n
 
 -- all m rows of the table stand in the area after the dump
 pub record Dumped (s area area' : List ℕ) (m : ℕ) : Type 0 where

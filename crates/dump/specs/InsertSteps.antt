@@ -1,7 +1,7 @@
 -- The steps of the insertion: a put that decides its path is not among the rows yet, and goes in at its place; the loop over the entries of an
 -- interior node. Relies on what insert_row promises (specs/Insertion: Inserted) and on the laws of tables.
-use Rattle.std.specs.Prelude.{ℕ, suc, ◌+◌, ◌*◌, ◌-◌, ◌≤◌, ◌≡◌, refl, List, [], ◌∷◌, ◌++◌, Bool, true, false, ◌&&◌, not, cond, length, take, drop}
-use Rattle.image.specs.Prelude.{sym, ap, subst, ◌∙◌, true≢false, none, arith, drop-append_seam, not-true, not-false}
+use Rattle.std.specs.Prelude.{ℕ, suc, ◌+◌, ◌*◌, ◌-◌, ◌≤◌, ◌≡◌, refl, List, [], ◌∷◌, ◌++◌, Bool, true, false, ◌&&◌, cond, length, drop}
+use Rattle.image.specs.Prelude.{sym, ap, subst, ◌∙◌, true≢false, none, arith, drop-append_seam}
 use Rattle.image.specs.Path.{value_fits}
 use Rattle.image.specs.Entry as defined
 use Rattle.image.specs.Table.{Row, find, with_row, put_all, every_key, rising}
@@ -10,10 +10,6 @@ use Rattle.octets.specs.Order.{and-false, and_left, same_refl}
 use Rattle.laws.specs.Tables.{find-fails}
 use Rattle.laws.specs.Rising.{rising-with}
 use Rattle.laws.specs.Filter.{every-imp, every-with}
-use Rattle.node.specs.Places.{part, message_in, entry_in}
-use Rattle.node.specs.declared.Place.{Place}
-use Rattle.node.specs.declared.Message.{Message}
-use Rattle.node.specs.declared.Entry.{Entry}
 use Rattle.node.specs.Search.Latest.{entry_says, newest_among}
 use Rattle.packed.specs.Rows.Area.{rows_of, RowsFit}
 use Rattle.packed.specs.Rows.Steps.{rows-length}
@@ -22,10 +18,8 @@ use Rattle.dump.specs.Insertion.Merge.{put-among}
 use Rattle.dump.specs.Insertion.Slots.{rows-parts}
 use Rattle.live_count.specs.Live.{holds_no_message}
 use Rattle.live_count.specs.KeepLaws.{with-length, quiet_put}
-use Rattle.live_count.specs.PathBuffers.{path_in}
-use Rattle.node.specs.declared.PathBuffer.{PathBuffer}
+use Rattle.live_count.specs.Notes.Notes.{NoPut}
 use Rattle.live_count.specs.Walk.{decides}
-use Rattle.live_count.specs.Steps.{as-path}
 use Rattle.dump.specs.Dump.{entry_value_fits, with_entry, insert_among, Untold, Open, Placed}
 use Rattle.dump.specs.AppendSteps.{values-first, values-later}
 
@@ -170,90 +164,62 @@ placed_row area area' first m path value h l x =
     let p = rows-parts first (m + 1) area area' (with_row path value (rows_of (m - first) area first)) (omega arith) x.rows in
     record { fit = x.fit; ahead = omega arith; front = p.0; rows = p.1; size = l }
 
--- ONE PUT
-module _ (s : List ℕ) (p : PathBuffer) (k v : Place) (es : List defined.Entry) (ok : List ℕ → Bool) (area : List ℕ) (first m : ℕ)
-    (opened : Open area first m ok (path_in p) (defined.message (defined.puts (part s k) (part s v)) ∷ es)) where
-  abbrev entry : defined.Entry
-  entry = defined.message (defined.puts (part s k) (part s v))
+-- ONE ENTRY
+-- one that is no put
+pub after-none : (b : Bool) (prefix : List ℕ) (e : defined.Entry) (t : List Row) → NoPut e → with_entry b prefix e t ≡ t
+unfolding with_entry
+after-none b prefix (defined.pair k v) t h = refl
+after-none b prefix (defined.child i k) t h = refl
+after-none b prefix (defined.message (defined.puts k v)) t h = absurd (h k v refl)
+after-none b prefix (defined.message (defined.drops k)) t h = refl
+after-none b prefix (defined.message (defined.clears k)) t h = refl
 
+module _ (lead : List ℕ) (e : defined.Entry) (es : List defined.Entry) (ok : List ℕ → Bool) (area : List ℕ) (first m : ℕ) (opened : Open area first m ok lead (e ∷ es)) where
   abbrev here : List Row
   here = rows_of (m - first) area first
 
   abbrev there : List Row
-  there = with_entry (decides ok (path_in p) entry es) (path_in p) entry here
+  there = with_entry (decides ok lead e es) lead e here
 
-  pub put-told : (b : Bool) → b ≡ holds_no_message (newest_among es (part s k)) → not b ≡ true → Placed first area area m there
-  unfolding with_entry decides
-  put-told b e n = placed_same area first m there opened.fit opened.ahead (rw (← e, not-true b n))
+  pub put-none : NoPut e → Placed first area area m there
+  put-none h = placed_same area first m there opened.fit opened.ahead (after-none (decides ok lead e es) lead e here h)
 
-  pub put-hidden : (b : Bool) → b ≡ ok (path_in p ++ part s k) → not b ≡ true → Placed first area area m there
-  unfolding with_entry decides
-  put-hidden b e n =
-      placed_same area first m there opened.fit opened.ahead (rw (← e, not-true b n, and-false (holds_no_message (newest_among es (part s k)))))
-
-  pub put-absent : find (path_in p ++ part s k) here ≡ none
-  put-absent = untold-absent (path_in p) (part s k) (part s v) es here opened.untold
-
-  pub put-value : value_fits (part s v) ≡ true
-  unfolding entry_value_fits
-  put-value = values-first entry (entry ∷ es) es refl opened.values
-
-  -- it decides its path
-  module _ (b c : Bool) (e : b ≡ holds_no_message (newest_among es (part s k))) (n : not b ≡ false) (f : c ≡ ok (path_in p ++ part s k)) (g : not c ≡ false) where
-    put_in : there ≡ with_row (path_in p ++ part s k) (part s v) here
+  -- a put
+  module _ (k v : List ℕ) (q : e ≡ defined.message (defined.puts k v)) where
+    put-there : there ≡ cond (holds_no_message (newest_among es k) && ok (lead ++ k)) (with_row (lead ++ k) v here) here
     unfolding with_entry decides
-    put_in = rw (← e, not-false b n, ← f, not-false c g)
+    put-there = rw q
 
-    pub put-room : m * 128 + 128 ≤ length area
-    unfolding insert_among
-    put-room =
-        let a = opened.room in
-        let h = opened.ahead in
-        let d : length there ≤ length (insert_among ok (path_in p) es there) = insert-grows ok (path_in p) es there (untold-next ok (path_in p) entry es here opened.untold) in
-        let w : length there ≡ suc (length here) = ap length put_in ∙ with-length (path_in p ++ part s k) (part s v) here put-absent in
-        let l : length here ≡ m - first = rows-length (m - first) area first in
-        omega arith
+    pub put-told : (b : Bool) → b ≡ holds_no_message (newest_among es k) → b ≡ false → Placed first area area m there
+    put-told b f n = placed_same area first m there opened.fit opened.ahead (put-there ∙ rw (← f, n))
 
-    -- the path as the code lends it
-    module _ (full : PathBuffer) (q : path_in full ≡ path_in p ++ part s k) where
-      full_is : take (full.len - 0) (drop 0 full.bytes) ≡ path_in p ++ part s k
-      full_is = as-path full full.len full.bytes refl refl ∙ q
+    pub put-hidden : (b : Bool) → b ≡ ok (lead ++ k) → b ≡ false → Placed first area area m there
+    put-hidden b f n = placed_same area first m there opened.fit opened.ahead (put-there ∙ rw (← f, n, and-false (holds_no_message (newest_among es k))))
 
-      pub full-absent : find (take (full.len - 0) (drop 0 full.bytes)) here ≡ none
-      full-absent = rw full_is put-absent
+    pub put-absent : find (lead ++ k) here ≡ none
+    put-absent = untold-absent lead k v es here (subst (λ x. Untold lead (x ∷ es) here) q opened.untold)
 
-      pub put-placed : (area' : List ℕ) → length area' ≡ length area → Inserted first m area area' (take (full.len - 0) (drop 0 full.bytes)) (part s v)
-          → Placed first area area' (m + 1) there
-      put-placed area' l x =
-          subst (λ t. Placed first area area' (m + 1) t) (sym put_in)
-          (placed_row area area' first m (path_in p ++ part s k) (part s v) opened.ahead l (subst (λ y. Inserted first m area area' y (part s v)) full_is x))
+    pub put-value : value_fits v ≡ true
+    unfolding entry_value_fits
+    put-value = ap entry_value_fits (sym q) ∙ values-first e (e ∷ es) es refl opened.values
 
--- ONE ENTRY, BY ITS KIND
-module _ (s : List ℕ) (b : Bool) (prefix : List ℕ) (t : List Row) where
-  pub after-drop : (m : Message) (k : Place) → m ≡ Message.Drop k → with_entry b prefix (defined.message (message_in s m)) t ≡ t
-  unfolding with_entry
-  after-drop m k q = rw q
+    -- it decides its path
+    module _ (b c : Bool) (f : b ≡ holds_no_message (newest_among es k)) (n : b ≡ true) (g : c ≡ ok (lead ++ k)) (o : c ≡ true) where
+      put_in : there ≡ with_row (lead ++ k) v here
+      put_in = put-there ∙ rw (← f, n, ← g, o)
 
-  pub after-clear : (m : Message) (k : Place) → m ≡ Message.Clear k → with_entry b prefix (defined.message (message_in s m)) t ≡ t
-  unfolding with_entry
-  after-clear m k q = rw q
+      pub put-room : m * 128 + 128 ≤ length area
+      unfolding insert_among
+      put-room =
+          let a = opened.room in
+          let h = opened.ahead in
+          let d : length there ≤ length (insert_among ok lead es there) = insert-grows ok lead es there (untold-next ok lead e es here opened.untold) in
+          let w : length there ≡ suc (length here) = ap length put_in ∙ with-length (lead ++ k) v here put-absent in
+          let l : length here ≡ m - first = rows-length (m - first) area first in
+          omega arith
 
-  pub after-pair : (e : Entry) (k v : Place) → e ≡ Entry.Pair k v → with_entry b prefix (entry_in s e) t ≡ t
-  unfolding with_entry
-  after-pair e k v q = rw q
-
-  pub after-child : (e : Entry) (i : ℕ) (k : Place) → e ≡ Entry.Child i k → with_entry b prefix (entry_in s e) t ≡ t
-  unfolding with_entry
-  after-child e i k q = rw q
-
--- what is asked and given of a message or an entry, told of what it is
-pub open-as : (area : List ℕ) (first m : ℕ) (ok : List ℕ → Bool) (prefix : List ℕ) (e d : defined.Entry) (es : List defined.Entry) → e ≡ d
-    → Open area first m ok prefix (e ∷ es) → Open area first m ok prefix (d ∷ es)
-open-as area first m ok prefix e d es q o = subst (λ x. Open area first m ok prefix (x ∷ es)) q o
-
-pub placed-as : (first r : ℕ) (area area' : List ℕ) (ok : List ℕ → Bool) (prefix : List ℕ) (e d : defined.Entry) (es : List defined.Entry) (t : List Row) → d ≡ e
-    → Placed first area area' r (with_entry (decides ok prefix e es) prefix e t) → Placed first area area' r (with_entry (decides ok prefix d es) prefix d t)
-placed-as first r area area' ok prefix e d es t q o = subst (λ x. Placed first area area' r (with_entry (decides ok prefix x es) prefix x t)) (sym q) o
+      pub put-placed : (area' : List ℕ) → length area' ≡ length area → Inserted first m area area' (lead ++ k) v → Placed first area area' (m + 1) there
+      put-placed area' l x = subst (λ t. Placed first area area' (m + 1) t) (sym put_in) (placed_row area area' first m (lead ++ k) v opened.ahead l x)
 
 -- THE LOOP
 pub record Inserting (first : ℕ) (area₀ area : List ℕ) (m : ℕ) (ok : List ℕ → Bool) (prefix : List ℕ) (es : List defined.Entry) (all : List Row) : Type 0 where

@@ -1,12 +1,10 @@
 -- Puts that go into a table one after the other, oldest first, and what the functions that do so ask. Definitions only.
 -- Relies on specs/Dump (a table after an entry) and on specs/Insertion (rows laid in two parts).
 use Rattle.std.specs.Prelude.{ℕ, ◌*◌, ◌≤◌, ◌≡◌, List, [], ◌∷◌, ◌++◌, Bool, true, false, ◌&&◌, length}
-use Rattle.image.specs.Bytes.{u16}
 use Rattle.image.specs.Path.{value_fits}
 use Rattle.image.specs.Entry.{Entry, pair, child, message, puts, drops, clears}
 use Rattle.image.specs.Table.{Row}
 use Rattle.live_count.specs.Live.{short}
-use Rattle.live_count.specs.declared.Visit.{Visit}
 use Rattle.dump.specs.Insertion.Insertion.{Apart, laid}
 use Rattle.dump.specs.Dump.{with_entry}
 
@@ -40,22 +38,8 @@ unfoldable pub puts_fit : List ℕ → List Entry → Bool
 puts_fit front [] = true
 puts_fit front (e ∷ es) = put_fits front e && puts_fit front es
 
--- an entry of the root may be put into the rows up to m and those from there up to `all`
-pub record Settable (area : List ℕ) (m all : ℕ) (e : Entry) : Type 0 where
-  pub apart : Apart area 0 m all
-  pub fits : put_fits [] e ≡ true
-  pub room : 128 * length (with_entry true [] e (laid area m all)) ≤ length area
-
--- the same of all the puts among entries of the root
+-- the puts among entries of the root may be put into the rows up to m and those from there up to `all`
 pub record Unset (area : List ℕ) (m all : ℕ) (es : List Entry) : Type 0 where
   pub apart : Apart area 0 m all
   pub fits : puts_fit [] es ≡ true
   pub room : 128 * length (put_among [] es (laid area m all)) ≤ length area
-
--- the visit of the root: an empty prefix, an empty trail and no notes
-pub record AtRoot (s : List ℕ) (v : Visit) : Type 0 where
-  pub num : v.num ≡ u16 s 6
-  pub level : v.level ≡ u16 s 8
-  pub prefix : v.position.prefix.len ≡ 0
-  pub trail : v.position.trail.depth ≡ 0
-  pub noted : v.position.noted ≡ 0

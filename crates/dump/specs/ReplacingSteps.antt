@@ -1,66 +1,57 @@
 -- The steps of the puts that go into the rows of the root's children: an entry by its kind, one put, and the loop over the entries.
 -- Relies on what set_row promises (specs/Insertion: Laid) and on the laws of tables.
-use Rattle.std.specs.Prelude.{ℕ, ◌*◌, ◌≤◌, ◌≡◌, refl, List, [], ◌∷◌, ◌++◌, Bool, true, false, ◌&&◌, not, length}
-use Rattle.image.specs.Prelude.{sym, ap, subst, ◌∙◌, arith, leb-true, not-true, not-false}
+use Rattle.std.specs.Prelude.{ℕ, ◌*◌, ◌≤◌, ◌≡◌, refl, List, [], ◌∷◌, ◌++◌, Bool, true, false, ◌&&◌, length}
+use Rattle.image.specs.Prelude.{sym, ap, subst, ◌∙◌, arith, leb-true}
 use Rattle.image.specs.Bytes.{same, before}
 use Rattle.image.specs.Path.{path_limit, value_fits}
 use Rattle.image.specs.Entry as defined
 use Rattle.image.specs.Table.{Row, with_row, every_key}
 use Rattle.octets.specs.Order.{and_left, and_right, same-eq}
 use Rattle.laws.specs.Rising.{both}
-use Rattle.node.specs.Places.{part, message_in, entry_in}
-use Rattle.node.specs.declared.Place.{Place}
-use Rattle.node.specs.declared.Message.{Message}
-use Rattle.node.specs.declared.Entry.{Entry}
+use Rattle.std.specs.Borrow.{Bor}
+use Rattle.node.specs.Lent.{entry_is}
+use Rattle.node.specs.declared.entries.Message.{Message}
+use Rattle.node.specs.declared.entries.Entry.{Entry}
+use Rattle.live_count.specs.Notes.Notes.{NoPut}
 use Rattle.live_count.specs.Live.{short}
-use Rattle.dump.specs.Insertion.Insertion.{Apart, Laid, laid}
+use Rattle.dump.specs.Insertion.Insertion.{Laid, laid}
 use Rattle.dump.specs.Insertion.Merge.{with-more}
 use Rattle.dump.specs.Dump.{with_entry}
 use Rattle.dump.specs.AppendSteps.{value-short}
-use Rattle.dump.specs.Replacing.{keeps_rows, only_puts, put_among, put_fits, puts_fit, Settable, Unset}
+use Rattle.dump.specs.InsertSteps.{after-none}
+use Rattle.dump.specs.Replacing.{keeps_rows, only_puts, put_among, put_fits, puts_fit, Unset}
 
 -- WHETHER ENTRIES TAKE ROWS AWAY
-module _ (m : Message) (k : Place) where
-  pub put_keeps : (v : Place) → m ≡ Message.Put k v → (s : List ℕ) → true ≡ keeps_rows (defined.message (message_in s m))
-  unfolding keeps_rows
-  put_keeps v q s = rw q
-
-  pub drop_keeps : m ≡ Message.Drop k → (s : List ℕ) → false ≡ keeps_rows (defined.message (message_in s m))
-  unfolding keeps_rows
-  drop_keeps q s = rw q
-
-  pub clear-keeps : m ≡ Message.Clear k → (s : List ℕ) → false ≡ keeps_rows (defined.message (message_in s m))
-  unfolding keeps_rows
-  clear-keeps q s = rw q
-
-module _ (e : Entry) where
-  pub pair_keeps : (k v : Place) → e ≡ Entry.Pair k v → (s : List ℕ) → true ≡ keeps_rows (entry_in s e)
-  unfolding keeps_rows
-  pair_keeps k v q s = rw q
-
-  pub child-keeps : (i : ℕ) (k : Place) → e ≡ Entry.Child i k → (s : List ℕ) → true ≡ keeps_rows (entry_in s e)
-  unfolding keeps_rows
-  child-keeps i k q s = rw q
-
-  pub message-keeps : (m : Message) (r : Bool) → e ≡ Entry.Message m → ((s : List ℕ) → r ≡ keeps_rows (defined.message (message_in s m)))
-      → (s : List ℕ) → r ≡ keeps_rows (entry_in s e)
-  message-keeps m r q h s = rw q (h s)
-
 -- the loop: whether the entries left take no row away is whether all take none
 pub keeps-end : (es : List defined.Entry) (answer : Bool) → es ≡ [] → only_puts es ≡ answer → true ≡ answer
 unfolding only_puts
 keeps-end es answer q inv = rw q at inv
 
-module _ (s : List ℕ) (e : Entry) (es ts : List defined.Entry) (b answer : Bool) (q : es ≡ entry_in s e ∷ ts) (h : b ≡ keeps_rows (entry_in s e)) (inv : only_puts es ≡ answer) where
-  first-keeps : keeps_rows (entry_in s e) && only_puts ts ≡ answer
+module _ (e : Entry) (es ts : List defined.Entry) (answer : Bool) (q : es ≡ entry_is e ∷ ts) (inv : only_puts es ≡ answer) where
+  first-keeps : keeps_rows (entry_is e) && only_puts ts ≡ answer
   unfolding only_puts
   first-keeps = rw q at inv
 
-  pub keeps-not : not b ≡ true → false ≡ answer
-  keeps-not n = rw (sym h ∙ not-true b n) at first-keeps
+  pub other-keeps : ((m : Message) → e ≡ Entry.Message m → ⊥) → only_puts ts ≡ answer
+  other-keeps h = go e h first-keeps
+    where
+      go : (e : Entry) → ((m : Message) → e ≡ Entry.Message m → ⊥) → keeps_rows (entry_is e) && only_puts ts ≡ answer → only_puts ts ≡ answer
+      go (Entry.Pair k v) h x = unfold keeps_rows in x
+      go (Entry.Child i k) h x = unfold keeps_rows in x
+      go (Entry.Message m) h x = absurd (h m refl)
 
-  pub keeps_on : not b ≡ false → only_puts ts ≡ answer
-  keeps_on n = rw (sym h ∙ not-false b n) at first-keeps
+  module _ (m : Message) (f : e ≡ Entry.Message m) where
+    pub put-keeps : (k v : Bor (List ℕ)) → m ≡ Message.Put k v → only_puts ts ≡ answer
+    unfolding keeps_rows
+    put-keeps k v g = rw (f, g) at first-keeps
+
+    pub taken : ((k v : Bor (List ℕ)) → m ≡ Message.Put k v → ⊥) → false ≡ answer
+    taken h = go m h (rw f at first-keeps)
+      where
+        go : (m : Message) → ((k v : Bor (List ℕ)) → m ≡ Message.Put k v → ⊥) → keeps_rows (entry_is (Entry.Message m)) && only_puts ts ≡ answer → false ≡ answer
+        go (Message.Put k v) h x = absurd (h k v refl)
+        go (Message.Drop k) h x = unfold keeps_rows in x
+        go (Message.Clear k) h x = unfold keeps_rows in x
 
 -- THE ROWS AND THEIR PATHS BECOME NO FEWER
 entry_more : (prefix : List ℕ) (e : defined.Entry) (t : List Row) → length t ≤ length (with_entry true prefix e t)
@@ -106,40 +97,6 @@ unfolding put_among
 puts-passed test prefix [] t h = h
 puts-passed test prefix (e ∷ es) t h = entry-passed test prefix e t (puts-passed test prefix es (with_entry true prefix e t) h)
 
--- ONE ENTRY
-pub laid_same : (area : List ℕ) (m all : ℕ) (t : List Row) → Apart area 0 m all → t ≡ laid area m all → Laid m area area all t
-laid_same area m all t a e = record { apart = a; table = sym e; size = refl }
-
-module _ (s area : List ℕ) (m all : ℕ) (g : Message) (k v : Place) (q : g ≡ Message.Put k v)
-    (o : Settable area m all (defined.message (message_in s g))) where
-  this : Settable area m all (defined.message (defined.puts (part s k) (part s v)))
-  this = subst (λ x. Settable area m all (defined.message (message_in s x))) q o
-
-  pub put-path : length (part s k) ≤ 64
-  unfolding put_fits short
-  put-path = leb-true (length (part s k)) path_limit (and_left _ _ this.fits)
-
-  pub put-value : length (part s v) ≤ 60
-  unfolding put_fits
-  put-value = value-short (part s v) (and_right (short (part s k)) (value_fits (part s v)) this.fits)
-
-  pub put-room : 128 * length (with_row (part s k) (part s v) (laid area m all)) ≤ length area
-  unfolding with_entry
-  put-room = this.room
-
-  pub put-laid : (area' : List ℕ) (r : ℕ) → Laid m area area' r (with_row (part s k) (part s v) (laid area m all))
-      → Laid m area area' r (with_entry true [] (defined.message (message_in s g)) (laid area m all))
-  unfolding with_entry
-  put-laid area' r x = subst (λ y. Laid m area area' r (with_entry true [] (defined.message (message_in s y)) (laid area m all))) (sym q) x
-
-module _ (s area : List ℕ) (m all : ℕ) (e : Entry) (g : Message) (q : e ≡ Entry.Message g) where
-  pub message-settable : Settable area m all (entry_in s e) → Settable area m all (defined.message (message_in s g))
-  message-settable o = subst (λ x. Settable area m all (entry_in s x)) q o
-
-  pub message-laid : (area' : List ℕ) (r : ℕ) → Laid m area area' r (with_entry true [] (defined.message (message_in s g)) (laid area m all))
-      → Laid m area area' r (with_entry true [] (entry_in s e) (laid area m all))
-  message-laid area' r x = subst (λ y. Laid m area area' r (with_entry true [] (entry_in s y) (laid area m all))) (sym q) x
-
 -- THE LOOP
 pub record Setting (m : ℕ) (area₀ area : List ℕ) (all : ℕ) (es : List defined.Entry) (t : List Row) : Type 0 where
   pub unset : Unset area m all es
@@ -158,25 +115,56 @@ module _ (m : ℕ) (area₀ area : List ℕ) (all : ℕ) (es : List defined.Entr
     this-unset : Unset area m all (e ∷ ts)
     this-unset = subst (λ l. Unset area m all l) q a.unset
 
-    pub setting-here : Settable area m all e
-    unfolding put_among puts_fit
-    setting-here =
-        let u = this-unset in
-        let r : 128 * length (put_among [] ts (with_entry true [] e (laid area m all))) ≤ length area = u.room in
-        let l = puts-more [] ts (with_entry true [] e (laid area m all)) in
-        record { apart = u.apart; fits = and_left _ _ u.fits; room = omega arith }
+    now-table : put_among [] ts (with_entry true [] e (laid area m all)) ≡ t
+    unfolding put_among
+    now-table = ap (λ l. put_among [] l (laid area m all)) (sym q) ∙ a.table
 
-    pub setting-next : (area' : List ℕ) (r : ℕ) → Laid m area area' r (with_entry true [] e (laid area m all)) → Setting m area₀ area' r ts t
-    unfolding put_among puts_fit
-    setting-next area' r x =
+    later-fits : puts_fit [] ts ≡ true
+    unfolding puts_fit
+    later-fits = and_right (put_fits [] e) _ this-unset.fits
+
+    -- no put
+    pub setting-past : NoPut e → Setting m area₀ area all ts t
+    unfolding put_among
+    setting-past h =
         let u = this-unset in
-        let h : 128 * length (put_among [] ts (with_entry true [] e (laid area m all))) ≤ length area = u.room in
-        let w : put_among [] ts (laid area' m r) ≡ put_among [] ts (with_entry true [] e (laid area m all)) = ap (put_among [] ts) x.table in
-        let l : length (put_among [] ts (laid area' m r)) ≡ length (put_among [] ts (with_entry true [] e (laid area m all))) = ap length w in
-        let z = x.size in
-        let f : put_among [] (e ∷ ts) (laid area m all) ≡ t = ap (λ l. put_among [] l (laid area m all)) (sym q) ∙ a.table in
+        let w : with_entry true [] e (laid area m all) ≡ laid area m all = after-none true [] e (laid area m all) h in
+        let r : 128 * length (put_among [] ts (with_entry true [] e (laid area m all))) ≤ length area = u.room in
         record {
-          unset = record { apart = x.apart; fits = and_right (put_fits [] e) _ u.fits; room = omega arith };
-          table = w ∙ f;
-          size = x.size ∙ a.size;
+          unset = record { apart = u.apart; fits = later-fits; room = rw w at r };
+          table = ap (put_among [] ts) (sym w) ∙ now-table;
+          size = a.size;
         }
+
+    -- a put
+    module _ (k v : List ℕ) (f : e ≡ defined.message (defined.puts k v)) where
+      pub put-path : length k ≤ 64
+      unfolding puts_fit put_fits short
+      put-path = let z : put_fits [] (defined.message (defined.puts k v)) ≡ true = ap (put_fits []) (sym f) ∙ and_left _ _ this-unset.fits in leb-true (length k) path_limit (and_left _ _ z)
+
+      pub put-value : length v ≤ 60
+      unfolding puts_fit put_fits
+      put-value =
+          let z : put_fits [] (defined.message (defined.puts k v)) ≡ true = ap (put_fits []) (sym f) ∙ and_left _ _ this-unset.fits in
+          value-short v (and_right (short k) (value_fits v) z)
+
+      set : with_entry true [] e (laid area m all) ≡ with_row k v (laid area m all)
+      unfolding with_entry
+      set = rw f
+
+      pub put-room : 128 * length (with_row k v (laid area m all)) ≤ length area
+      unfolding put_among
+      put-room =
+          let r : 128 * length (put_among [] ts (with_entry true [] e (laid area m all))) ≤ length area = this-unset.room in
+          let l = puts-more [] ts (with_entry true [] e (laid area m all)) in
+          let z = ap length set in
+          omega arith
+
+      pub setting-next : (area' : List ℕ) (r : ℕ) → Laid m area area' r (with_row k v (laid area m all)) → Setting m area₀ area' r ts t
+      unfolding put_among
+      setting-next area' r x =
+          let h : 128 * length (put_among [] ts (with_entry true [] e (laid area m all))) ≤ length area = this-unset.room in
+          let w : put_among [] ts (laid area' m r) ≡ put_among [] ts (with_entry true [] e (laid area m all)) = ap (put_among [] ts) (x.table ∙ sym set) in
+          let l : length (put_among [] ts (laid area' m r)) ≡ length (put_among [] ts (with_entry true [] e (laid area m all))) = ap length w in
+          let z = x.size in
+          record { unset = record { apart = x.apart; fits = later-fits; room = omega arith }; table = w ∙ now-table; size = x.size ∙ a.size }

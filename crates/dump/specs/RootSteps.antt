@@ -10,15 +10,17 @@ use Rattle.image.specs.Sound.{sound, sound_tree, lowest, highest, table_of}
 use Rattle.octets.specs.Order.{and_right}
 use Rattle.laws.specs.Filter.{keep, keep_all}
 use Rattle.laws.specs.ButLive.{sound_but_live, sound-live, sound-but-live, parts_of}
+use Rattle.laws.specs.Reading.Relative.{usable}
 use Rattle.packed.specs.Build.BuiltLaws.{no-rows-fit}
 use Rattle.packed.specs.Rows.Area.{rows_of}
 use Rattle.live_count.specs.Live.{short}
 use Rattle.live_count.specs.LiveLaws.{all_short}
 use Rattle.live_count.specs.PathBuffers.{path_in}
 use Rattle.node.specs.declared.PathBuffer.{PathBuffer}
-use Rattle.live_count.specs.declared.visibility.Trail.{Trail}
+use Rattle.live_count.specs.declared.trail.Trail.{Trail}
 use Rattle.live_count.specs.Walk.{passing, Ready}
-use Rattle.live_count.specs.RootSteps.{countable, one-node, tree_is, root-ready, empty-prefix, no-trail}
+use Rattle.live_count.specs.Steps.{no-trail}
+use Rattle.live_count.specs.RootSteps.{countable, one-node, tree-reads, tree_is, root-ready, empty-prefix}
 use Rattle.dump.specs.Dump.{Room, Added, Dumped}
 
 -- a sound store has at most as many rows as nodes
@@ -33,42 +35,46 @@ module _ (s : List ℕ) (h : sound s ≡ true) where
   dump-long = one-node s (countable s (sound-but-live s h))
 
   -- the root, with an empty prefix and an empty trail
-  module _ (root levels : ℕ) (a : root ≡ u16 s 6) (b : levels ≡ u16 s 8) (p : PathBuffer) (e : p.len ≡ 0) where
-    pub dump-ready : (t : Trail) → t.depth ≡ 0 → Ready s levels root p t
-    dump-ready t f = root-ready s (countable s (sound-but-live s h)) root levels a b p t e f
+  module _ (root levels : ℕ) (a : root ≡ u16 s 6) (b : levels ≡ u16 s 8) where
+    pub root-reads : usable (nodes_of (length s)) (tree_at levels s root) ≡ true
+    root-reads = ap (λ x. usable (nodes_of (length s)) x) (tree_is s (countable s (sound-but-live s h)) root levels a b) ∙ tree-reads s (countable s (sound-but-live s h))
 
-    module _ (lo hi : List ℕ) (g : lo ≡ []) (k : hi ≡ highest) where
-      low_is : path_in p ++ lo ≡ lowest
-      low_is = ap₂ (λ x y. x ++ y) (empty-prefix s (countable s (sound-but-live s h)) root levels a b p e) g
+    pub dump-ready : (t : Trail) → t.depth ≡ 0 → Ready s levels root t
+    dump-ready t f = root-ready s (countable s (sound-but-live s h)) root levels a b t f
 
-      high_is : path_in p ++ hi ≡ highest
-      high_is = ap₂ (λ x y. x ++ y) (empty-prefix s (countable s (sound-but-live s h)) root levels a b p e) k
+    module _ (p : PathBuffer) (e : p.len ≡ 0) where
+      module _ (lo hi : List ℕ) (g : lo ≡ []) (k : hi ≡ highest) where
+        low_is : path_in p ++ lo ≡ lowest
+        low_is = ap₂ (λ x y. x ++ y) (empty-prefix s (countable s (sound-but-live s h)) root levels a b p e) g
 
-      pub dump-sound : sound_tree (tree_at levels s root) (path_in p ++ lo) (path_in p ++ hi) ≡ true
-      dump-sound =
-          ap₂ (λ x y. sound_tree (tree_at levels s root) x y) low_is high_is ∙ ap (λ x. sound_tree x lowest highest) (tree_is s (countable s (sound-but-live s h)) root levels a b)
-          ∙ (countable s (sound-but-live s h)).tree
+        high_is : path_in p ++ hi ≡ highest
+        high_is = ap₂ (λ x y. x ++ y) (empty-prefix s (countable s (sound-but-live s h)) root levels a b p e) k
 
-      module _ (t : Trail) (f : t.depth ≡ 0) where
-        abbrev Rows : List Row
-        Rows = keep (passing s t) (rows (tree_at levels s root) (path_in p ++ lo) (path_in p ++ hi))
+        pub dump-sound : sound_tree (tree_at levels s root) (path_in p ++ lo) (path_in p ++ hi) ≡ true
+        dump-sound =
+            ap₂ (λ x y. sound_tree (tree_at levels s root) x y) low_is high_is ∙ ap (λ x. sound_tree x lowest highest) (tree_is s (countable s (sound-but-live s h)) root levels a b)
+            ∙ (countable s (sound-but-live s h)).tree
 
-        whole-table : Rows ≡ table_of s
-        unfolding table_of
-        whole-table =
-            ap₂ (λ x y. keep (passing s t) (rows (tree_at levels s root) x y)) low_is high_is
-            ∙ ap₂ (λ x y. keep y (rows x lowest highest)) (tree_is s (countable s (sound-but-live s h)) root levels a b) (λ i q. no-trail s (countable s (sound-but-live s h)) root levels a b t f q i)
-            ∙ keep_all short (rows (tree_of s) lowest highest) (all_short (tree_of s) lowest highest (countable s (sound-but-live s h)).tree)
+        module _ (t : Trail) (f : t.depth ≡ 0) where
+          abbrev Rows : List Row
+          Rows = keep (passing t) (rows (tree_at levels s root) (path_in p ++ lo) (path_in p ++ hi))
 
-        pub dump-room : (area : List ℕ) → 128 * nodes_of (length s) ≤ length area → Room area 0 Rows
-        dump-room area l =
-            let n = table-few s h in
-            let w : length Rows ≡ length (table_of s) = ap length whole-table in
-            record { fit = no-rows-fit area; room = omega arith }
+          whole-table : Rows ≡ table_of s
+          unfolding table_of
+          whole-table =
+              ap₂ (λ x y. keep (passing t) (rows (tree_at levels s root) x y)) low_is high_is
+              ∙ ap₂ (λ x y. keep y (rows x lowest highest)) (tree_is s (countable s (sound-but-live s h)) root levels a b) (λ i q. no-trail t f q i)
+              ∙ keep_all short (rows (tree_of s) lowest highest) (all_short (tree_of s) lowest highest (countable s (sound-but-live s h)).tree)
 
-        pub dump-done : (area area' : List ℕ) (r : ℕ) → Added 0 area area' r Rows → Dumped s area area' r
-        unfolding rows_of
-        dump-done area area' r x =
-            let w : length Rows ≡ length (table_of s) = ap length whole-table in
-            let c = x.count in
-            record { fit = x.fit; table = x.rows ∙ whole-table; count = omega arith; size = x.size }
+          pub dump-room : (area : List ℕ) → 128 * nodes_of (length s) ≤ length area → Room area 0 Rows
+          dump-room area l =
+              let n = table-few s h in
+              let w : length Rows ≡ length (table_of s) = ap length whole-table in
+              record { fit = no-rows-fit area; room = omega arith }
+
+          pub dump-done : (area area' : List ℕ) (r : ℕ) → Added 0 area area' r Rows → Dumped s area area' r
+          unfolding rows_of
+          dump-done area area' r x =
+              let w : length Rows ≡ length (table_of s) = ap length whole-table in
+              let c = x.count in
+              record { fit = x.fit; table = x.rows ∙ whole-table; count = omega arith; size = x.size }

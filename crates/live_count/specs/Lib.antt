@@ -6,9 +6,9 @@ pub mod PathBuffers
 pub mod Walk
 pub mod Steps
 pub mod WalkLaws
-pub mod NodeSteps
-pub mod RootSteps
 pub mod PathSteps
 pub mod Noted
 pub mod NotedSteps
-pub mod CoverSteps
+pub mod TreeSteps
+pub mod NodeSteps
+pub mod RootSteps

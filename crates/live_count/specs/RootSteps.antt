@@ -1,10 +1,10 @@
 -- Step lemmas of the count from the root: what the first call asks, and that its answer is the length of the table.
 -- Relies on `Countable` (Walk), on live-root (LiveLaws), and on the bytes of the header (lookup: Root).
-use Rattle.std.specs.Prelude.{ℕ, ◌≤◌, ◌≡◌, refl, List, [], ◌++◌, true, length, take, drop}
-use Rattle.image.specs.Prelude.{sym, ap, ap₂, ◌∙◌, arith}
+use Rattle.std.specs.Prelude.{ℕ, ◌≤◌, ◌≡◌, refl, List, [], ◌++◌, true, ◌&&◌, length, take, drop}
+use Rattle.image.specs.Prelude.{sym, ap, ap₂, ◌∙◌, arith, and-true}
 use Rattle.image.specs.Bytes.{u16, shared}
 use Rattle.image.specs.Image.{Tree, nodes_of, header, header_of, tree_at, tree_of}
-use Rattle.image.specs.Sound.{lowest, highest, table_of}
+use Rattle.image.specs.Sound.{sound_tree, lowest, highest, table_of}
 use Rattle.laws.specs.ButLive.{sound_but_live, parts_of}
 use Rattle.octets.specs.Cap.{cap}
 use Rattle.laws.specs.Reading.Relative.{lifts, usable, sound-usable}
@@ -14,15 +14,19 @@ use Rattle.live_count.specs.Live.{short, live_here}
 use Rattle.live_count.specs.LiveLaws.{live-root}
 use Rattle.live_count.specs.PathBuffers.{path_in}
 use Rattle.node.specs.declared.PathBuffer.{PathBuffer}
-use Rattle.live_count.specs.declared.visibility.Trail.{Trail}
-use Rattle.live_count.specs.Walk.{passes, passing, Ready, Countable}
+use Rattle.live_count.specs.declared.trail.Trail.{Trail}
+use Rattle.live_count.specs.declared.position.Position.{Position}
+use Rattle.live_count.specs.Noted.{AtRoot, Tells, SoundNode}
+use Rattle.live_count.specs.Steps.{no-trail}
+use Rattle.live_count.specs.NotedSteps.{empty-quiet}
+use Rattle.live_count.specs.Walk.{passing, Ready, Countable}
 
 -- an image that is sound but for its live count can be counted
 pub countable : (s : List ℕ) → sound_but_live s ≡ true → Countable s
 countable s e = let p = parts_of s e in record { tree = p.tree; range = p.range; levels = p.levels_high }
 
 module _ (s : List ℕ) (h : Countable s) where
-  tree-reads : usable (nodes_of (length s)) (tree_of s) ≡ true
+  pub tree-reads : usable (nodes_of (length s)) (tree_of s) ≡ true
   tree-reads = sound-usable (tree_of s) (nodes_of (length s)) lowest highest h.tree h.range
 
   pub one-node : 1024 ≤ length s
@@ -42,12 +46,10 @@ module _ (s : List ℕ) (h : Countable s) where
     unfolding tree_of
     tree_is = ap₂ (λ x y. tree_at x s y) levels-are root_is
 
-    pub root-ready : (p : PathBuffer) (t : Trail) → p.len ≡ 0 → t.depth ≡ 0 → Ready s levels root p t
-    root-ready p t e f =
+    pub root-ready : (t : Trail) → t.depth ≡ 0 → Ready s levels root t
+    root-ready t f =
         record {
           reads = ap (λ x. usable (nodes_of (length s)) x) tree_is ∙ tree-reads;
-          room = omega arith;
-          trail = record { few = omega arith; each = λ i l. absurd (omega arith) };
           deep = let l = levels-are in let g = h.levels in omega arith;
         }
 
@@ -55,20 +57,24 @@ module _ (s : List ℕ) (h : Countable s) where
     unfolding path_in
     empty-prefix p e = ap (λ n. take n p.bytes) e
 
-    pub no-trail : (t : Trail) → t.depth ≡ 0 → (q : List ℕ) → passing s t q ≡ short q
-    no-trail t e q = ap (λ d. passes s t.nodes t.lifts d q) e ∙ at_top q
-      where
-        at_top : (q : List ℕ) → passes s t.nodes t.lifts 0 q ≡ short q
-        at_top q = unfold passes in refl
+    pub root-sound : (p : Position) → AtRoot p → SoundNode s levels root p.prefix [] highest
+    root-sound p e =
+        ap (λ x. sound_tree x (path_in p.prefix ++ []) (path_in p.prefix ++ highest)) tree_is
+        ∙ ap (λ x. sound_tree (tree_of s) (x ++ []) (x ++ highest)) (empty-prefix p.prefix e.prefix) ∙ h.tree
 
     from-root : (t : Tree) → live_here t short ([] ++ shared [] highest) (drop (lifts [] highest) highest) ≡ live_here t short [] highest
     unfolding lifts shared
     from-root t = refl
 
-    pub root-counts : (p : PathBuffer) (t : Trail) (lo : List ℕ) (r : ℕ) → p.len ≡ 0 → t.depth ≡ 0 → lo ≡ []
-        → r ≡ cap (live_here (tree_at levels s root) (passing s t) (path_in p ++ shared lo highest) (drop (lifts lo highest) highest)) → r ≡ cap (length (table_of s))
+    pub root-counts : (p : Position) (r : ℕ) → AtRoot p
+        → r ≡ cap (live_here (tree_at levels s root) (passing p.trail) (path_in p.prefix ++ shared [] highest) (drop (lifts [] highest) highest)) → r ≡ cap (length (table_of s))
     unfolding table_of
-    root-counts p t lo r e f g c =
-        c ∙ ap₂ (λ x y. cap (live_here x y (path_in p ++ shared lo highest) (drop (lifts lo highest) highest))) tree_is (λ i q. no-trail t f q i)
-        ∙ ap₂ (λ x y. cap (live_here (tree_of s) short (x ++ shared y highest) (drop (lifts y highest) highest))) (empty-prefix p e) g
+    root-counts p r e c =
+        c ∙ ap₂ (λ x y. cap (live_here x y (path_in p.prefix ++ shared [] highest) (drop (lifts [] highest) highest))) tree_is (λ i q. no-trail p.trail e.trail q i)
+        ∙ ap (λ x. cap (live_here (tree_of s) short (x ++ shared [] highest) (drop (lifts [] highest) highest))) (empty-prefix p.prefix e.prefix)
         ∙ ap cap (from-root (tree_of s) ∙ live-root (tree_of s) highest h.tree)
+
+-- above the root there is nothing to tell
+pub root_told : (p : Position) (lo hi : List ℕ) → AtRoot p → Tells p lo hi
+root_told p lo hi e = λ s k o.
+    no-trail p.trail e.trail (path_in p.prefix ++ k) ∙ sym (ap (λ x. short (path_in p.prefix ++ k) && x) (empty-quiet p.notes k e.notes) ∙ and-true (short (path_in p.prefix ++ k)))

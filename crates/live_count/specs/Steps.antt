@@ -1,141 +1,118 @@
--- Step lemmas of the functions that look at one entry: what each exit of the code owes, over plain lists and numbers.
--- Relies on the definitions of Walk and on the contracts of node and its search.
-use Rattle.std.specs.Prelude.{ℕ, zero, suc, ◌+◌, ◌-◌, ◌<◌, ◌≤◌, ◌≡◌, refl, List, [], ◌∷◌, ◌++◌, Bool, true, false, ◌&&◌, not, length, take, drop, get_or, set, leb}
-use Rattle.image.specs.Prelude.{sym, ap, ◌∙◌, true≢false, and-true, arith, length-append, get_or-set_same, get_or-set_other, le-leb, lt-leb, leb-true, leb-false, not-true, not-false, add-one}
+-- Step lemmas of the functions that hold one path against a trail: what each exit of the code owes, over plain lists and numbers.
+-- Relies on the definitions of Walk and on the contracts of node.
+use Rattle.std.specs.Prelude.{ℕ, ◌+◌, ◌-◌, ◌<◌, ◌≤◌, ◌≡◌, refl, List, [], ◌∷◌, ◌++◌, Bool, true, false, ◌&&◌, length, take, drop, get_or, leb, zero, suc}
+use Rattle.std.specs.List.{list_all, All}
+use Rattle.std.specs.Borrow.{Bor}
+use Rattle.image.specs.Prelude.{sym, ap, ap₂, subst, ◌∙◌, true≢false, and-true, arith, length-append, le-leb, lt-leb, take_all, length-drop, Option, none, some}
 use Rattle.image.specs.Entry as defined
-use Rattle.octets.specs.Order.{and-false}
-use Rattle.node.specs.Places.{part, entry_in, message_in, cursor_of}
-use Rattle.node.specs.Entries.{listed}
-use Rattle.node.specs.declared.Place.{Place}
-use Rattle.node.specs.declared.Cursor.{Cursor}
-use Rattle.node.specs.declared.Message.{Message}
-use Rattle.node.specs.declared.Entry.{Entry}
+use Rattle.octets.specs.Order.{and-false, and_assoc}
+use Rattle.std.proofs.lemmas.List.Folds.{list_all_at, list_all-append}
+use Rattle.lookup.specs.Look.{part-rest}
+use Rattle.node.specs.Lent.{entry_is, message_is, left_of}
+use Rattle.image.specs.Bytes.{u16}
+use Rattle.node.specs.Cut.{cut-drop}
+use Rattle.node.specs.Entries.{list_of, read_some, cons_then, list-cons}
+use Rattle.node.specs.declared.entries.Entries.{Entries}
+use Rattle.node.specs.declared.entries.Entry.{Entry}
 use Rattle.node.specs.Search.Latest.{entry_says, newest_among, newer-nothing}
 use Rattle.node.specs.Search.Messages.{is_message, has_message}
-use Rattle.lookup.specs.Look.{listing, part-rest}
 use Rattle.live_count.specs.Live.{holds_no_message, one, short, Shortens}
+use Rattle.live_count.specs.Notes.Notes.{NoPut}
 use Rattle.live_count.specs.PathBuffers.{path_in}
 use Rattle.live_count.specs.PathSteps.{path_length}
 use Rattle.node.specs.declared.PathBuffer.{PathBuffer}
-use Rattle.live_count.specs.declared.visibility.Trail.{Trail}
-use Rattle.live_count.specs.Walk.{passes, passing, TrailIn, Above, Deeper, pushed, decides, count_among}
+use Rattle.image.specs.Path.{owns}
+use Rattle.octets.specs.Order.{and_left, and_right}
+use Rattle.live_count.specs.Noted.{keyed, LeafTold, KeyTold}
+use Rattle.live_count.specs.declared.position.Position.{Position}
+use Rattle.live_count.specs.declared.trail.Stage.{Stage}
+use Rattle.live_count.specs.declared.trail.Trail.{Trail}
+use Rattle.live_count.specs.Walk.{stages_of, says_nothing, passes, passing, LiftsWithin, Deeper, decides, count_among}
 
-pub node-uncovered : (s : List ℕ) (num : ℕ) (entries : Cursor) (rest : List ℕ) (r : Bool) → entries ≡ cursor_of s num
-    → r ≡ holds_no_message (newest_among (listed s entries.at entries.end) rest) → r ≡ holds_no_message (newest_among (listing s num) rest)
-node-uncovered s num entries rest r e h = h ∙ ap (λ x. holds_no_message (newest_among (listed s x.at x.end) rest)) e
+-- the nodes of a trail, one by one
+pub hidden : (xs : List Stage) (q : List ℕ) (i : ℕ) (d : Stage) (r : Bool) (ys : List Stage) → ys ≡ xs → i < length ys
+    → r ≡ holds_no_message (newest_among (left_of (get_or ys i d).entries) (take (length q - (get_or ys i d).lift) (drop (get_or ys i d).lift q))) → r ≡ false → false ≡ passes xs q
+unfolding passes
+hidden xs q i d r ys e l h n =
+    let f : says_nothing q (get_or ys i d) ≡ false = ap (λ z. holds_no_message (newest_among (left_of (get_or ys i d).entries) z)) (sym (part-rest (get_or ys i d).lift q)) ∙ sym h ∙ n in
+    sym (ap (λ zs. short q && list_all (says_nothing q) zs) (sym e) ∙ ap (λ x. short q && x) (list_all_at (says_nothing q) ys i d l f) ∙ and-false (short q))
 
--- the trail, from its last node up
-module _ (s nodes lifts : List ℕ) (q : List ℕ) where
-  passes-step : (d : ℕ) → 0 < d → passes s nodes lifts d q
-      ≡ passes s nodes lifts (d - 1) q && holds_no_message (newest_among (listing s (get_or nodes (d - 1) 0)) (drop (get_or lifts (d - 1) 0) q))
-  unfolding passes
-  passes-step zero h = absurd (omega arith)
-  passes-step (suc d) h = let e : suc d - 1 ≡ d = omega arith in rw e
-
-  latest-at : (d : ℕ) (r : Bool) → r ≡ holds_no_message (newest_among (listing s (get_or nodes (d - 1) 0)) (take (length q - get_or lifts (d - 1) 0) (drop (get_or lifts (d - 1) 0) q)))
-      → holds_no_message (newest_among (listing s (get_or nodes (d - 1) 0)) (drop (get_or lifts (d - 1) 0) q)) ≡ r
-  latest-at d r h = ap (λ z. holds_no_message (newest_among (listing s (get_or nodes (d - 1) 0)) z)) (sym (part-rest (get_or lifts (d - 1) 0) q)) ∙ sym h
-
-  pub trail-latest : (d : ℕ) (r : Bool) (answer : Bool) → 0 < d → answer ≡ passes s nodes lifts d q
-      → r ≡ holds_no_message (newest_among (listing s (get_or nodes (d - 1) 0)) (take (length q - get_or lifts (d - 1) 0) (drop (get_or lifts (d - 1) 0) q))) → not r ≡ true → false ≡ answer
-  trail-latest d r answer h inv e n =
-      sym (inv ∙ passes-step d h ∙ ap (λ x. passes s nodes lifts (d - 1) q && x) (latest-at d r e ∙ not-true r n) ∙ and-false (passes s nodes lifts (d - 1) q))
-
-  pub trail-quiet : (d : ℕ) (r : Bool) (answer : Bool) → 0 < d → answer ≡ passes s nodes lifts d q
-      → r ≡ holds_no_message (newest_among (listing s (get_or nodes (d - 1) 0)) (take (length q - get_or lifts (d - 1) 0) (drop (get_or lifts (d - 1) 0) q))) → not r ≡ false
-      → answer ≡ passes s nodes lifts (d - 1) q
-  trail-quiet d r answer h inv e n = inv ∙ passes-step d h ∙ ap (λ x. passes s nodes lifts (d - 1) q && x) (latest-at d r e ∙ not-false r n) ∙ and-true (passes s nodes lifts (d - 1) q)
-
-  pub trail-over : (d : ℕ) (answer : Bool) → d ≤ 0 → length q ≤ 64 → answer ≡ passes s nodes lifts d q → true ≡ answer
-  unfolding passes short
-  trail-over zero answer h l inv = sym (inv ∙ le-leb (length q) 64 l)
-  trail-over (suc d) answer h l inv = absurd (omega arith)
+pub seen : (xs : List Stage) (q : List ℕ) (n : ℕ) (ys : List Stage) → ys ≡ xs → length q ≤ 64 → length ys ≤ n → list_all (says_nothing q) (take n ys) ≡ true → true ≡ passes xs q
+unfolding passes short
+seen xs q n ys e l m h =
+    sym (ap (λ zs. short q && list_all (says_nothing q) zs) (sym e) ∙ ap (λ x. x && list_all (says_nothing q) ys) (le-leb (length q) 64 l)
+    ∙ ap (λ zs. list_all (says_nothing q) zs) (sym (take_all n ys m)) ∙ h)
 
 -- a path that is too long passes no trail
-long-fails : (s nodes lifts : List ℕ) (d : ℕ) (q : List ℕ) → 64 < length q → passes s nodes lifts d q ≡ false
-unfolding passes short
-long-fails s nodes lifts zero q h = lt-leb (length q) 64 h
-long-fails s nodes lifts (suc d) q h = rw (long-fails s nodes lifts d q h)
+pub passes-short : (t : Trail) → Shortens (λ q. passing t q)
+unfolding Shortens passes short
+passes-short t = λ q h. ap (λ x. x && list_all (says_nothing q) (stages_of t)) (lt-leb (length q) 64 h)
 
-pub passes-short : (s : List ℕ) (t : Trail) → Shortens (λ q. passing s t q)
-unfolding Shortens
-passes-short s t = λ q h. long-fails s t.nodes t.lifts t.depth q h
-
--- a trail whose nodes lift at most n bytes, where n may grow
-pub trail-wider : (s : List ℕ) (n m : ℕ) (t : Trail) → n ≤ m → TrailIn s n t → TrailIn s m t
-trail-wider s n m t h a = record { few = a.few; each = λ i l. let b = a.each i l in record { inside = b.inside; fits = b.fits; lifted = omega arith } }
+pub no-trail : (t : Trail) → t.depth ≡ 0 → (q : List ℕ) → passing t q ≡ short q
+unfolding passes
+no-trail t e q = ap (λ d. short q && list_all (says_nothing q) (take d t.stages)) e ∙ and-true (short q)
 
 -- the path of a key under a prefix
-module _ (s : List ℕ) (p : PathBuffer) (t : Trail) (key : List ℕ) (h : p.len ≤ length p.bytes) where
+module _ (p : PathBuffer) (t : Trail) (key : List ℕ) (h : p.len ≤ length p.bytes) where
   full-length : length (path_in p ++ key) ≡ p.len + length key
   full-length = length-append (path_in p) key ∙ ap (λ n. n + length key) (path_length p h)
 
-  pub key-long : 64 < p.len + length key → false ≡ passing s t (path_in p ++ key)
-  key-long l = sym (long-fails s t.nodes t.lifts t.depth (path_in p ++ key) (let e = full-length in omega arith))
+  pub key-long : 64 < p.len + length key → false ≡ passing t (path_in p ++ key)
+  unfolding Shortens
+  key-long l = sym (passes-short t (path_in p ++ key) (let e = full-length in omega arith))
 
-  pub key-free : p.len + length key ≤ 64 → t.depth ≡ 0 → true ≡ passing s t (path_in p ++ key)
-  unfolding passes short
-  key-free l z =
-      let e = full-length in
-      sym (ap (λ d. passes s t.nodes t.lifts d (path_in p ++ key)) z ∙ le-leb (length (path_in p ++ key)) 64 (omega arith))
-
--- the bytes of a buffer, as a part is made
-pub as-path : (p : PathBuffer) (n : ℕ) (b : List ℕ) → n ≡ p.len → b ≡ p.bytes → take (n - 0) (drop 0 b) ≡ path_in p
-unfolding path_in
-as-path p n b e f = let z : n - 0 ≡ n = omega arith in rw (z, e, f)
-
-pub key-passes : (s : List ℕ) (p full : PathBuffer) (t : Trail) (key : List ℕ) (n : ℕ) (b : List ℕ) (r : Bool) → n ≡ full.len → b ≡ full.bytes
-    → path_in full ≡ path_in p ++ key → r ≡ passing s t (take (n - 0) (drop 0 b)) → r ≡ passing s t (path_in p ++ key)
-key-passes s p full t key n b r e f g h = h ∙ ap (λ q. passing s t q) (as-path full n b e f ∙ g)
-
-pub key-length : (p full : PathBuffer) (key : List ℕ) → p.len ≤ length p.bytes → path_in full ≡ path_in p ++ key
-    → length (take (full.len - 0) (drop 0 full.bytes)) ≡ p.len + length key
-key-length p full key h e =
-    ap length (as-path full full.len full.bytes refl refl ∙ e) ∙ length-append (path_in p) key ∙ ap (λ n. n + length key) (path_length p h)
+  pub key-free : p.len + length key ≤ 64 → t.depth ≡ 0 → true ≡ passing t (path_in p ++ key)
+  unfolding short
+  key-free l z = sym (no-trail t z (path_in p ++ key) ∙ le-leb (length (path_in p ++ key)) 64 (let e = full-length in omega arith))
 
 -- whether an entry decides its path, by its kind
-module _ (ok : List ℕ → Bool) (prefix s : List ℕ) (es : List defined.Entry) where
-  pub pair-decides : (e : Entry) (p v : Place) (r : Bool) → e ≡ Entry.Pair p v → r ≡ ok (prefix ++ part s p) → r ≡ decides ok prefix (entry_in s e) es
+module _ (ok : List ℕ → Bool) (prefix : List ℕ) (e : Entry) (es : List defined.Entry) where
+  pub pair-decides : (k v : Bor (List ℕ)) (r : Bool) → e ≡ Entry.Pair k v → r ≡ ok (prefix ++ k.now) → r ≡ decides ok prefix (entry_is e) es
   unfolding decides
-  pair-decides e p v r q h = h ∙ rw q
+  pair-decides k v r q h = h ∙ rw q
 
-  pub child-decides : (e : Entry) (i : ℕ) (p : Place) → e ≡ Entry.Child i p → false ≡ decides ok prefix (entry_in s e) es
+  pub put-hidden : (k v : List ℕ) (b : Bool) → entry_is e ≡ defined.message (defined.puts k v) → b ≡ holds_no_message (newest_among es k) → b ≡ false → b ≡ decides ok prefix (entry_is e) es
   unfolding decides
-  child-decides e i p q = rw q
+  put-hidden k v b q h n = ap (λ x. x) n ∙ sym (ap (λ x. decides ok prefix x es) q ∙ ap (λ x. x && ok (prefix ++ k)) (sym h ∙ n))
 
-  pub message-decides : (e : Entry) (m : Message) (r : Bool) → e ≡ Entry.Message m → r ≡ decides ok prefix (defined.message (message_in s m)) es → r ≡ decides ok prefix (entry_in s e) es
-  message-decides e m r q h = rw q h
-
-  pub put-hidden : (m : Message) (p v : Place) (b : Bool) → m ≡ Message.Put p v → b ≡ holds_no_message (newest_among es (part s p)) → not b ≡ true
-      → false ≡ decides ok prefix (defined.message (message_in s m)) es
+  pub put-decides : (k v : List ℕ) (b r : Bool) → entry_is e ≡ defined.message (defined.puts k v) → b ≡ holds_no_message (newest_among es k) → b ≡ true
+      → r ≡ ok (prefix ++ k) → r ≡ decides ok prefix (entry_is e) es
   unfolding decides
-  put-hidden m p v b q h n = rw (q, ← h, not-true b n)
+  put-decides k v b r q h n g = g ∙ sym (ap (λ x. decides ok prefix x es) q ∙ ap (λ x. x && ok (prefix ++ k)) (sym h ∙ n))
 
-  pub put-decides : (m : Message) (p v : Place) (b r : Bool) → m ≡ Message.Put p v → b ≡ holds_no_message (newest_among es (part s p)) → not b ≡ false
-      → r ≡ ok (prefix ++ part s p) → r ≡ decides ok prefix (defined.message (message_in s m)) es
-  unfolding decides
-  put-decides m p v b r q h n g = rw (q, ← h, not-false b n) g
+  pub none-decides : ((k v : Bor (List ℕ)) → e ≡ Entry.Pair k v → ⊥) → NoPut (entry_is e) → false ≡ decides ok prefix (entry_is e) es
+  none-decides = go e
+    where
+      message : (m : defined.Message) → NoPut (defined.message m) → false ≡ decides ok prefix (defined.message m) es
+      message (defined.puts k v) h = absurd (h k v refl)
+      message (defined.drops k) h = unfold decides in refl
+      message (defined.clears k) h = unfold decides in refl
 
-  pub drop-decides : (m : Message) (p : Place) → m ≡ Message.Drop p → false ≡ decides ok prefix (defined.message (message_in s m)) es
-  unfolding decides
-  drop-decides m p q = rw q
+      go : (e : Entry) → ((k v : Bor (List ℕ)) → e ≡ Entry.Pair k v → ⊥) → NoPut (entry_is e) → false ≡ decides ok prefix (entry_is e) es
+      go (Entry.Pair k v) h g = absurd (h k v refl)
+      go (Entry.Child i k) h g = unfold decides in refl
+      go (Entry.Message m) h g = message (message_is m) g
 
-  pub clear-decides : (m : Message) (p : Place) → m ≡ Message.Clear p → false ≡ decides ok prefix (defined.message (message_in s m)) es
-  unfolding decides
-  clear-decides m p q = rw q
-
--- the loop over a node's entries
+-- the count of entries, from the first on
 module _ (ok : List ℕ → Bool) (prefix : List ℕ) where
   pub count-end : (es : List defined.Entry) (n N : ℕ) → es ≡ [] → n + count_among ok prefix es ≡ N → n ≡ N
   unfolding count_among
   count-end es n N q inv = let z : n + 0 ≡ N = rw q at inv in omega arith
 
-  pub count-step : (s : List ℕ) (e : Entry) (es ts : List defined.Entry) (n d N : ℕ) (b : Bool) → es ≡ entry_in s e ∷ ts → b ≡ decides ok prefix (entry_in s e) ts → d ≡ one b
-      → n + count_among ok prefix es ≡ N → n + d + count_among ok prefix ts ≡ N
-  unfolding count_among
-  count-step s e es ts n d N b q h f inv =
-      let z : n + (one (decides ok prefix (entry_in s e) ts) + count_among ok prefix ts) ≡ N = rw q at inv in
-      let w : d ≡ one (decides ok prefix (entry_in s e) ts) = f ∙ ap one h in
+  pub count-on : (e : defined.Entry) (es ts : List defined.Entry) (n N : ℕ) (b : Bool) → es ≡ e ∷ ts → b ≡ decides ok prefix e ts → n + count_among ok prefix es ≡ N
+      → b ≡ true → n + 1 + count_among ok prefix ts ≡ N
+  unfolding count_among one
+  count-on e es ts n N b q h inv t =
+      let z : n + (one (decides ok prefix e ts) + count_among ok prefix ts) ≡ N = rw q at inv in
+      let w : one (decides ok prefix e ts) ≡ 1 = ap one (sym h ∙ t) in
+      omega arith
+
+  pub count-past : (e : defined.Entry) (es ts : List defined.Entry) (n N : ℕ) (b : Bool) → es ≡ e ∷ ts → b ≡ decides ok prefix e ts → n + count_among ok prefix es ≡ N
+      → b ≡ false → n + count_among ok prefix ts ≡ N
+  unfolding count_among one
+  count-past e es ts n N b q h inv t =
+      let z : n + (one (decides ok prefix e ts) + count_among ok prefix ts) ≡ N = rw q at inv in
+      let w : one (decides ok prefix e ts) ≡ 0 = ap one (sym h ∙ t) in
       omega arith
 
 no-message : (es : List defined.Entry) (r : List ℕ) → has_message es ≡ false → holds_no_message (newest_among es r) ≡ true
@@ -146,67 +123,84 @@ no-message (defined.child i k ∷ es) r h = ap holds_no_message (newer-nothing (
 no-message (defined.message m ∷ es) r h = absurd (true≢false h)
 
 -- the trail for a node's children
-module _ (s : List ℕ) (num lift : ℕ) (t : Trail) (fit : TrailIn s lift t) (few : t.depth < 8) where
-  pub same-trail : (es : List defined.Entry) (b : Bool) → es ≡ listing s num → b ≡ has_message es → not b ≡ true → Deeper s num lift t t
-  same-trail es b e h n =
-      let f : has_message (listing s num) ≡ false = ap has_message (sym e) ∙ sym h ∙ not-true b n in
-      record { test = λ q. joined (passing s t q) (holds_no_message (newest_among (listing s num) (drop lift q))) (no-message (listing s num) (drop lift q) f); fits = fit; depth = omega arith }
+module _ (es : List defined.Entry) (lift : ℕ) (t : Trail) where
+  pub same-trail : has_message es ≡ false → Deeper es lift t t
+  same-trail f = record { test = λ q. joined (passing t q) (holds_no_message (newest_among es (drop lift q))) (no-message es (drop lift q) f); depth = omega arith }
     where
       joined : (x y : Bool) → y ≡ true → x ≡ x && y
       joined true y e = sym e
       joined false y e = refl
 
-  pub longer-trail : (r : Trail) → r ≡ pushed t num lift → length t.nodes ≡ 8 → length t.lifts ≡ 8 → Above s lift num lift → Deeper s num lift t r
-  longer-trail r e ln ll a = rw e (deeper)
+  pub longer-trail : (r : Trail) (x : Stage) → stages_of r ≡ stages_of t ++ x ∷ [] → r.depth ≡ t.depth + 1 → left_of x.entries ≡ es → x.lift ≡ lift → Deeper es lift t r
+  unfolding passes
+  longer-trail r x e d g l = record { test = tested; depth = omega arith }
     where
-      at_last : get_or (set t.nodes t.depth num) t.depth 0 ≡ num
-      at_last = get_or-set_same t.nodes t.depth num 0 (omega arith)
+      tested : (q : List ℕ) → passing r q ≡ passing t q && holds_no_message (newest_among es (drop lift q))
+      tested q =
+          ap (λ xs. short q && list_all (says_nothing q) xs) e
+          ∙ ap (λ y. short q && y) (list_all-append (says_nothing q) (stages_of t) (x ∷ []) ∙ ap (λ y. list_all (says_nothing q) (stages_of t) && y) (and-true (says_nothing q x)))
+          ∙ sym (and_assoc (short q) (list_all (says_nothing q) (stages_of t)) (says_nothing q x))
+          ∙ ap₂ (λ fs n. (short q && list_all (says_nothing q) (stages_of t)) && holds_no_message (newest_among fs (drop n q))) g l
 
-      lift-last : get_or (set t.lifts t.depth lift) t.depth 0 ≡ lift
-      lift-last = get_or-set_same t.lifts t.depth lift 0 (omega arith)
+-- there are no more entries than bytes
+few-in : (n : ℕ) (s : List ℕ) → length s ≤ n → length (list_of s) ≤ length s
+few-in n [] h = unfold list_of read_some in omega arith
+few-in zero (b ∷ s) h = absurd (omega arith)
+few-in (suc n) (b ∷ s) h = go (leb 4 (length (b ∷ s)) && leb (u16 (b ∷ s) 0) (length (b ∷ s) - 4)) refl (few-in n (drop (u16 (b ∷ s) 0) (drop 4 (b ∷ s))))
+  where
+    rest : List ℕ
+    rest = drop (u16 (b ∷ s) 0) (drop 4 (b ∷ s))
 
-      before_last : (d : ℕ) → d ≤ t.depth → (q : List ℕ) → passes s (set t.nodes t.depth num) (set t.lifts t.depth lift) d q ≡ passes s t.nodes t.lifts d q
-      before_last zero h q = unfold passes in refl
-      before_last (suc d) h q =
-          let x : get_or (set t.nodes t.depth num) d 0 ≡ get_or t.nodes d 0 = get_or-set_other t.nodes t.depth d num 0 (λ z. omega arith) in
-          let y : get_or (set t.lifts t.depth lift) d 0 ≡ get_or t.lifts d 0 = get_or-set_other t.lifts t.depth d lift 0 (λ z. omega arith) in
-          let w = before_last d (omega arith) q in
-          step_same d q x y w
-        where
-          step_same : (d : ℕ) (q : List ℕ) → get_or (set t.nodes t.depth num) d 0 ≡ get_or t.nodes d 0 → get_or (set t.lifts t.depth lift) d 0 ≡ get_or t.lifts d 0
-              → passes s (set t.nodes t.depth num) (set t.lifts t.depth lift) d q ≡ passes s t.nodes t.lifts d q
-              → passes s (set t.nodes t.depth num) (set t.lifts t.depth lift) (suc d) q ≡ passes s t.nodes t.lifts (suc d) q
-          step_same d q x y w = unfold passes in rw (x, y, w)
+    cons-few : (o : Option defined.Entry) (es : List defined.Entry) → length (cons_then o es) ≤ length es + 1
+    cons-few none es = unfold cons_then in omega arith
+    cons-few (some e) es = unfold cons_then in omega arith
 
-      one_more : (q : List ℕ) → passes s (set t.nodes t.depth num) (set t.lifts t.depth lift) (suc t.depth) q
-          ≡ passes s t.nodes t.lifts t.depth q && holds_no_message (newest_among (listing s num) (drop lift q))
-      one_more q = unfold passes in rw (at_last, lift-last, before_last t.depth (omega arith) q)
+    go : (x : Bool) → leb 4 (length (b ∷ s)) && leb (u16 (b ∷ s) 0) (length (b ∷ s) - 4) ≡ x → (length rest ≤ n → length (list_of rest) ≤ length rest) → length (list_of (b ∷ s)) ≤ length (b ∷ s)
+    go true e ih =
+        let f : list_of (b ∷ s) ≡ cons_then (defined.entry_of (u16 (b ∷ s) 2) (take (u16 (b ∷ s) 0) (drop 4 (b ∷ s)))) (list_of rest) = list-cons (b ∷ s) (omega arith) ∙ rw e in
+        let l : length rest ≤ length s = let x = length-drop (u16 (b ∷ s) 0) (drop 4 (b ∷ s)) in let y = length-drop 4 (b ∷ s) in omega arith in
+        let m = ih (omega arith) in
+        let c = cons-few (defined.entry_of (u16 (b ∷ s) 2) (take (u16 (b ∷ s) 0) (drop 4 (b ∷ s)))) (list_of rest) in
+        let g = ap length f in
+        omega arith
+    go false e ih = let f : list_of (b ∷ s) ≡ [] = list-cons (b ∷ s) (omega arith) ∙ rw e in let g = ap length f in omega arith
 
-      above : (i : ℕ) → i < t.depth + 1 → Above s lift (get_or (set t.nodes t.depth num) i 0) (get_or (set t.lifts t.depth lift) i 0)
-      above i h = go (leb t.depth i) refl
-        where
-          go : (x : Bool) → leb t.depth i ≡ x → Above s lift (get_or (set t.nodes t.depth num) i 0) (get_or (set t.lifts t.depth lift) i 0)
-          go true f =
-              let l : t.depth ≤ i = leb-true t.depth i f in
-              let z : i ≡ t.depth = omega arith in
-              rw (z, at_last, lift-last) a
-          go false f =
-              let l : i < t.depth = leb-false t.depth i f in
-              let x : get_or (set t.nodes t.depth num) i 0 ≡ get_or t.nodes i 0 = get_or-set_other t.nodes t.depth i num 0 (λ z. omega arith) in
-              let y : get_or (set t.lifts t.depth lift) i 0 ≡ get_or t.lifts i 0 = get_or-set_other t.lifts t.depth i lift 0 (λ z. omega arith) in
-              rw (x, y) (fit.each i l)
+pub few-left : (it : Entries) → length (left_of it) ≤ length it.rest.now
+few-left it = few-in (length it.rest.now) it.rest.now (omega arith)
 
-      deeper : Deeper s num lift t (pushed t num lift)
-      deeper = record {
-        test = λ q. ap (λ d. passes s (set t.nodes t.depth num) (set t.lifts t.depth lift) d q) (add-one t.depth) ∙ one_more q;
-        fits = record { few = omega arith; each = above };
-        depth = omega arith;
-      }
+-- the bytes of a buffer without the first ones, as a part is made
+pub prefix-rest : (p : PathBuffer) (k : ℕ) → k ≤ p.len → take (p.len - k) (drop k p.bytes) ≡ drop k (path_in p)
+unfolding path_in
+prefix-rest p k h =
+    let z : 0 + k ≡ k = omega arith in
+    let y : p.len - 0 ≡ p.len = omega arith in
+    ap (λ i. take (p.len - i) (drop i p.bytes)) (sym z) ∙ sym (cut-drop p.bytes 0 p.len k (omega arith)) ∙ ap (λ i. drop k (take i p.bytes)) y
 
-pub one-yes : (b : Bool) → b ≡ true → 1 ≡ one b
-unfolding one
-one-yes b e = rw e
+-- what the first entry of a leaf is
+module _ (p : Position) (e : Entry) (es ts : List defined.Entry) (q : es ≡ entry_is e ∷ ts) (h : LeafTold p es) where
+  first-keyed : keyed (path_in p.prefix) h.lo h.hi (entry_is e ∷ ts) ≡ true
+  first-keyed = ap (λ l. keyed (path_in p.prefix) h.lo h.hi l) (sym q) ∙ h.keys
 
-pub one-not : (b : Bool) → b ≡ false → 0 ≡ one b
-unfolding one
-one-not b e = rw e
+  module _ (k v : Bor (List ℕ)) (f : e ≡ Entry.Pair k v) where
+    pair-keyed : (owns h.lo h.hi k.now && short (path_in p.prefix ++ k.now)) && keyed (path_in p.prefix) h.lo h.hi ts ≡ true
+    unfolding keyed
+    pair-keyed = rw f at first-keyed
+
+    pub leaf-key : KeyTold p k.now
+    leaf-key =
+        let a = and_left _ _ pair-keyed in
+        record { lo = h.lo; hi = h.hi; owned = and_left _ _ a; short_path = and_right (owns h.lo h.hi k.now) _ a; tells = h.tells }
+
+    pub leaf-rest : LeafTold p ts
+    leaf-rest = record { lo = h.lo; hi = h.hi; keys = and_right (owns h.lo h.hi k.now && short (path_in p.prefix ++ k.now)) _ pair-keyed; tells = h.tells }
+
+  pub leaf-other : ((k v : Bor (List ℕ)) → e ≡ Entry.Pair k v → ⊥) → ⊥
+  leaf-other f = go e f first-keyed
+    where
+      go : (x : Entry) → ((k v : Bor (List ℕ)) → x ≡ Entry.Pair k v → ⊥) → keyed (path_in p.prefix) h.lo h.hi (entry_is x ∷ ts) ≡ true → ⊥
+      go (Entry.Pair k v) f g = f k v refl
+      go (Entry.Child i k) f g = let z : false ≡ true = unfold keyed in g in true≢false (sym z)
+      go (Entry.Message m) f g = let z : false ≡ true = unfold keyed in g in true≢false (sym z)
+
+pub lift-at : (n : ℕ) (t : Trail) (ys : List Stage) (i : ℕ) (d : Stage) → LiftsWithin n t → ys ≡ stages_of t → i < length ys → (get_or ys i d).lift ≤ n
+lift-at n t ys i d h e l = (subst (λ xs. All (λ (x : Stage). x.lift ≤ n) xs) (sym e) h) i d l

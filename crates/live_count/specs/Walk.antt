@@ -1,49 +1,38 @@
 -- What the code of the walk carries down, and the count of a node's own entries, as the readers list them. Definitions only.
-use Rattle.std.specs.Prelude.{ℕ, zero, suc, ◌+◌, ◌*◌, ◌<◌, ◌≤◌, ◌≡◌, List, [], ◌∷◌, ◌++◌, Bool, true, false, ◌&&◌, length, drop, get_or, set}
-use Rattle.image.specs.Bytes.{u16}
+use Rattle.std.specs.Prelude.{ℕ, ◌+◌, ◌≤◌, ◌≡◌, List, [], ◌∷◌, ◌++◌, Bool, true, false, ◌&&◌, length, take, drop}
+use Rattle.std.specs.List.{list_all, All}
 use Rattle.image.specs.Entry as defined
-use Rattle.image.specs.Image.{header_of, tree_of, tree_at, nodes_of, forest_of}
+use Rattle.image.specs.Image.{Branch, header_of, tree_of, tree_at, nodes_of, forest_of}
 use Rattle.image.specs.Sound.{sound_tree, in_range, numbers, lowest, highest}
 use Rattle.laws.specs.Reading.Relative.{usable, usable_in}
-use Rattle.node.specs.Places.{part, Within}
-use Rattle.node.specs.Entries.{listed}
-use Rattle.node.specs.declared.Place.{Place}
-use Rattle.node.specs.declared.Cursor.{Cursor}
+use Rattle.node.specs.Lent.{left_of}
 use Rattle.node.specs.Search.Latest.{newest_among}
-use Rattle.node.specs.Search.Own.{branch, branches_among}
-use Rattle.lookup.specs.Look.{listing}
 use Rattle.live_count.specs.Live.{holds_no_message, one, short}
-use Rattle.node.specs.declared.PathBuffer.{PathBuffer}
-use Rattle.live_count.specs.declared.visibility.Trail.{Trail}
+use Rattle.live_count.specs.declared.trail.Stage.{Stage}
+use Rattle.live_count.specs.declared.trail.Trail.{Trail}
 
--- a path is short, and none of the first d nodes of a trail has a message on it; a node's messages see what follows the bytes that it lifts
-unfoldable pub passes : List ℕ → List ℕ → List ℕ → ℕ → List ℕ → Bool
-passes s nodes lifts zero q = short q
-passes s nodes lifts (suc d) q =
-    passes s nodes lifts d q && holds_no_message (newest_among (listing s (get_or nodes d 0)) (drop (get_or lifts d 0) q))
+-- the nodes of a trail, the root first
+abbrev pub stages_of : Trail → List Stage
+stages_of t = take t.depth t.stages
 
-abbrev pub passing : List ℕ → Trail → List ℕ → Bool
-passing s t q = passes s t.nodes t.lifts t.depth q
+-- a node has no message on a path; its messages see what follows the bytes that it lifts
+abbrev pub says_nothing : List ℕ → Stage → Bool
+says_nothing q x = holds_no_message (newest_among (left_of x.entries) (drop x.lift q))
 
--- a node of a trail lies in the store, and lifts at most n bytes
-pub record Above (s : List ℕ) (n num lift : ℕ) : Type 0 where
-  pub inside : num * 1024 + 1024 ≤ length s
-  pub fits : u16 s (num * 1024) ≤ 1016
-  pub lifted : lift ≤ n
+-- a path is short, and none of the nodes of a trail has a message on it
+unfoldable pub passes : List Stage → List ℕ → Bool
+passes xs q = short q && list_all (says_nothing q) xs
 
-pub record TrailIn (s : List ℕ) (n : ℕ) (t : Trail) : Type 0 where
-  pub few : t.depth ≤ 8
-  pub each : (i : ℕ) → i < t.depth → Above s n (get_or t.nodes i 0) (get_or t.lifts i 0)
+abbrev pub passing : Trail → List ℕ → Bool
+passing t q = passes (stages_of t) q
 
--- a trail with one node more
-abbrev pub pushed : Trail → ℕ → ℕ → Trail
-pushed t num lift =
-    record { nodes = set t.nodes t.depth num; lifts = set t.lifts t.depth lift; depth = t.depth + 1 }
+-- the nodes of a trail lift at most n bytes
+abbrev pub LiftsWithin : ℕ → Trail → Type 0
+LiftsWithin n t = All (λ x. x.lift ≤ n) (stages_of t)
 
--- the trail r for the children of a node whose trail is t: a path passes r if it passes t and the node's messages say nothing of it
-pub record Deeper (s : List ℕ) (num lift : ℕ) (t r : Trail) : Type 0 where
-  pub test : (q : List ℕ) → passing s r q ≡ passing s t q && holds_no_message (newest_among (listing s num) (drop lift q))
-  pub fits : TrailIn s lift r
+-- the trail r for the children of a node with these entries, whose trail is t: a path passes r if it passes t and the node's messages say nothing of it
+pub record Deeper (es : List defined.Entry) (lift : ℕ) (t r : Trail) : Type 0 where
+  pub test : (q : List ℕ) → passing r q ≡ passing t q && holds_no_message (newest_among es (drop lift q))
   pub depth : r.depth ≤ t.depth + 1
 
 -- an entry decides its path: es are the entries after it in its node
@@ -58,19 +47,13 @@ unfoldable pub count_among : (List ℕ → Bool) → List ℕ → List defined.E
 count_among ok prefix [] = 0
 count_among ok prefix (e ∷ es) = one (decides ok prefix e es) + count_among ok prefix es
 
--- What the walk relies on at a node of a level, under a prefix and a trail; and at the children of a node from the one in hand on.
-pub record Ready (s : List ℕ) (level num : ℕ) (p : PathBuffer) (t : Trail) : Type 0 where
+-- What the walk relies on at a node of a level, under a trail; and at the children of a node.
+pub record Ready (s : List ℕ) (level num : ℕ) (t : Trail) : Type 0 where
   pub reads : usable (nodes_of (length s)) (tree_at level s num) ≡ true
-  pub room : p.len ≤ 64
-  pub trail : TrailIn s p.len t
   pub deep : t.depth + level ≤ 8
 
-pub record ReadyBranches (s : List ℕ) (level first : ℕ) (pivot : Place) (start : Cursor) (p : PathBuffer) (t : Trail) : Type 0 where
-  pub reads : usable_in (nodes_of (length s)) (forest_of (λ j. tree_at level s j) (branch first (part s pivot) ∷ branches_among (listed s start.at start.end))) ≡ true
-  pub ends : start.end ≤ length s
-  pub place : Within 0 (length s) pivot
-  pub room : p.len ≤ 64
-  pub trail : TrailIn s p.len t
+pub record ReadyBranches (s : List ℕ) (level : ℕ) (ks : List Branch) (t : Trail) : Type 0 where
+  pub reads : usable_in (nodes_of (length s)) (forest_of (λ j. tree_at level s j) ks) ≡ true
   pub deep : t.depth + level ≤ 8
 
 -- What the count relies on: the image is sound but for the live count.

@@ -6,9 +6,9 @@ use Rattle.image.specs.Bytes.{shared}
 use Rattle.image.specs.Entry as defined
 use Rattle.image.specs.Table.{Row}
 use Rattle.image.specs.Image.{Tree, leaf, interior, Forest, Branch, Inside, nodes_of, pair_then, pairs_of, message_then, messages_of, no_branches, branch_then, inside_of, forest_of, tree_at}
-use Rattle.image.specs.Meaning.{newest, high_of}
+use Rattle.image.specs.Meaning.{newest}
 use Rattle.octets.specs.Cap.{cap, cap-add, cap-front}
-use Rattle.laws.specs.Reading.Relative.{lifts, usable}
+use Rattle.laws.specs.Reading.Relative.{lifts, usable, branch_high, high-at}
 use Rattle.node.specs.Search.Latest.{newest_among}
 use Rattle.node.specs.Search.Own.{branch, branches_among}
 use Rattle.lookup.specs.Look.{listing, leaf-at, interior-at, inside-splits, messages-newest}
@@ -128,33 +128,30 @@ module _ (s : List ℕ) (i level : ℕ) (u : usable (nodes_of (length s)) (tree_
       ∙ interior-here i f n.x.messages ok prefix hi
       ∙ ap (λ t. live_here t ok prefix hi) (sym n.tree)
 
--- the children, one at a time: the child in hand, and those that follow
-module _ (under : ℕ → Tree) (ok : List ℕ → Bool) (prefix hi : List ℕ) (num : ℕ) (low : List ℕ) where
-  branches-last : live_branches (forest_of under (branch num low ∷ [])) ok prefix hi ≡ live_here (under num) ok (prefix ++ shared low hi) (drop (lifts low hi) hi)
-  unfolding live_branches forest_of high_of
-  branches-last = omega arith
+-- the children, one at a time: the child in front, and those that follow
+module _ (under : ℕ → Tree) (ok : List ℕ → Bool) (prefix hi : List ℕ) where
+  pub walk-none : (ks : List Branch) (total N : ℕ) → ks ≡ [] → cap total ≡ total → cap (total + live_branches (forest_of under ks) ok prefix hi) ≡ N → total ≡ N
+  unfolding live_branches forest_of
+  walk-none ks total N q c inv =
+      let z : total + 0 ≡ total = omega arith in
+      sym c ∙ ap cap (sym z) ∙ sym (ap (λ l. cap (total + live_branches (forest_of under l) ok prefix hi)) q) ∙ inv
 
-  branches-more : (k : ℕ) (p : List ℕ) (us : List Branch) → live_branches (forest_of under (branch num low ∷ branch k p ∷ us)) ok prefix hi
-      ≡ live_here (under num) ok (prefix ++ shared low p) (drop (lifts low p) p) + live_branches (forest_of under (branch k p ∷ us)) ok prefix hi
-  unfolding live_branches forest_of high_of
-  branches-more k p us = refl
+  module _ (num : ℕ) (low high : List ℕ) (us : List Branch) (eh : high ≡ branch_high hi us) where
+    branches-more : live_branches (forest_of under (branch num low ∷ us)) ok prefix hi
+        ≡ live_here (under num) ok (prefix ++ shared low high) (drop (lifts low high) high) + live_branches (forest_of under us) ok prefix hi
+    unfolding live_branches forest_of
+    branches-more =
+        ap (λ h. live_here (under num) ok (prefix ++ shared low h) (drop (lifts low h) h) + live_branches (forest_of under us) ok prefix hi) (high-at under hi us ∙ sym eh)
 
-  pub walk-last : (ks : List Branch) (total n r N : ℕ) → ks ≡ [] → n ≡ cap (live_here (under num) ok (prefix ++ shared low hi) (drop (lifts low hi) hi))
-      → r ≡ cap (total + n) → cap (total + live_branches (forest_of under (branch num low ∷ ks)) ok prefix hi) ≡ N → r ≡ N
-  walk-last ks total n r N q e f inv =
-      f ∙ ap (λ z. cap (total + z)) e ∙ cap-add total (live_here (under num) ok (prefix ++ shared low hi) (drop (lifts low hi) hi))
-      ∙ ap (λ z. cap (total + z)) (sym branches-last) ∙ ap (λ l. cap (total + live_branches (forest_of under (branch num low ∷ l)) ok prefix hi)) (sym q) ∙ inv
-
-  pub walk-on : (k : ℕ) (p : List ℕ) (ks us : List Branch) (total n r N : ℕ) → ks ≡ branch k p ∷ us → n ≡ cap (live_here (under num) ok (prefix ++ shared low p) (drop (lifts low p) p))
-      → r ≡ cap (total + n) → cap (total + live_branches (forest_of under (branch num low ∷ ks)) ok prefix hi) ≡ N
-      → cap (r + live_branches (forest_of under (branch k p ∷ us)) ok prefix hi) ≡ N
-  walk-on k p ks us total n r N q e f inv =
-      let A : ℕ = live_here (under num) ok (prefix ++ shared low p) (drop (lifts low p) p) in
-      let B : ℕ = live_branches (forest_of under (branch k p ∷ us)) ok prefix hi in
-      let g : r ≡ cap (total + A) = f ∙ ap (λ z. cap (total + z)) e ∙ cap-add total A in
-      let a : total + A + B ≡ total + (A + B) = omega arith in
-      ap (λ z. cap (z + B)) g ∙ cap-front (total + A) B ∙ ap cap a
-      ∙ ap (λ z. cap (total + z)) (sym (branches-more k p us)) ∙ ap (λ l. cap (total + live_branches (forest_of under (branch num low ∷ l)) ok prefix hi)) (sym q) ∙ inv
+    pub walk-on : (ks : List Branch) (total n r N : ℕ) → ks ≡ branch num low ∷ us → n ≡ cap (live_here (under num) ok (prefix ++ shared low high) (drop (lifts low high) high))
+        → r ≡ cap (total + n) → cap (total + live_branches (forest_of under ks) ok prefix hi) ≡ N → cap (r + live_branches (forest_of under us) ok prefix hi) ≡ N
+    walk-on ks total n r N q e f inv =
+        let A : ℕ = live_here (under num) ok (prefix ++ shared low high) (drop (lifts low high) high) in
+        let B : ℕ = live_branches (forest_of under us) ok prefix hi in
+        let g : r ≡ cap (total + A) = f ∙ ap (λ z. cap (total + z)) e ∙ cap-add total A in
+        let a : total + A + B ≡ total + (A + B) = omega arith in
+        ap (λ z. cap (z + B)) g ∙ cap-front (total + A) B ∙ ap cap a
+        ∙ ap (λ z. cap (total + z)) (sym branches-more) ∙ ap (λ l. cap (total + live_branches (forest_of under l) ok prefix hi)) (sym q) ∙ inv
 
 pub walk_start : (N : ℕ) → cap (0 + N) ≡ cap N
 walk_start N = let e : 0 + N ≡ N = omega arith in ap cap e

@@ -1,5 +1,5 @@
 // The beginning of paths that a node lifts, in a buffer that is passed by value. A path is at most 64 bytes, and so is what the buffer holds: a
-// caller sees that there is room before it extends. Relies on node's PathBuffer.
+// caller sees that there is room before it extends. Relies on node's PathBuffer and on octets.
 ghost use Rattle.std.specs.Prelude.{◌≡◌, ◌++◌, ◌+◌, ◌≤◌, length};
 ghost use Rattle.live_count.specs.PathBuffers.{path_in};
 
@@ -10,13 +10,8 @@ pub fn extend(p: PathBuffer, s: &[u8]) -> PathBuffer
     requires { p.len + length s.now ≤ 64 }
     ensures { (path_in result ≡ path_in p ++ s.now) × (result.len ≡ p.len + length s.now) }
 {
-    let start = p.len;
-    let mut q = p;
-    let mut i = 0;
-    while i < s.len() {
-        q.bytes[start + i] = s[i];
-        i += 1;
-    }
-    q.len = start + s.len();
-    q
+    let mut longer = p;
+    octets::copy_at(&mut longer.bytes, p.len, s);
+    longer.len = p.len + s.len();
+    longer
 }

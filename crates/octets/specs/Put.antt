@@ -50,6 +50,14 @@ pub put_one : (page : List ℕ) (at v : ℕ) → at < length page → set page a
 unfolding put
 put_one page at v h = let z : suc at ≡ at + 1 = omega arith in set_split page at v h ∙ ap (λ n. take at page ++ (v ∷ drop n page)) z
 
+pub put_two : (page : List ℕ) (at v : ℕ) → at + 2 ≤ length page → set (set page at (v % 256)) (at + 1) (v / 256) ≡ put page at (u16_bytes v)
+put_two page at v h =
+    let e = put_one page at (v % 256) (omega arith) in
+    let s = put-size page at (v % 256 ∷ []) (omega arith) in
+    ap (λ p. set p (at + 1) (v / 256)) e
+    ∙ put_one (put page at (v % 256 ∷ [])) (at + 1) (v / 256) (omega arith)
+    ∙ put-put page at (v % 256 ∷ []) (v / 256 ∷ []) (omega arith)
+
 pub get-there : (page : List ℕ) (at : ℕ) (bs : List ℕ) (j : ℕ) → at ≤ length page → j < length bs → get_or (put page at bs) (at + j) 0 ≡ get_or bs j 0
 unfolding put
 get-there page at bs j h k =

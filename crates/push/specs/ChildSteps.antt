@@ -1,5 +1,5 @@
 -- Step lemmas of the loop over the children: the child in hand takes its messages, and those that follow have room still.
--- Relies on Laws/Only.
+-- Relies on Laws/Only and LeafRoom.
 use Rattle.std.specs.Prelude.{ℕ, ◌≡◌, List, [], ◌∷◌, true}
 use Rattle.image.specs.Prelude.{sym, ap, ◌∙◌}
 use Rattle.image.specs.Entry.{Entry}
@@ -9,42 +9,34 @@ use Rattle.laws.specs.Reading.Relative.{branch_high}
 use Rattle.node.specs.Search.Own.{branch}
 use Rattle.push.specs.Laws.Written.{child_takes, each_takes, has_room, all_have_room, branch_numbers}
 use Rattle.push.specs.Laws.Only.{room-first, once-first}
-use Rattle.push.specs.Laws.LeafRoom.{rooms-on}
+use Rattle.push.specs.Laws.LeafRoom as laws
 
-pub takes_none : (es : List Entry) (ks : List Branch) (hi s : List ℕ) → ks ≡ [] → s ≡ each_takes (child_takes es) ks hi s
-unfolding each_takes
-takes_none es ks hi s e = ap (λ l. each_takes (child_takes es) l hi s) (sym e)
+-- ks are left, and hi is the high pivot of the last
+module _ (es : List Entry) (hi s : List ℕ) (ks : List Branch) where
+  pub takes_none : (result : List ℕ) → ks ≡ [] → each_takes (child_takes es) ks hi s ≡ result → s ≡ result
+  unfolding each_takes
+  takes_none result e inv = ap (λ l. each_takes (child_takes es) l hi s) (sym e) ∙ inv
 
--- the child in hand is i, with the low pivot lo; ks follow
-module _ (es : List Entry) (hi s s' : List ℕ) (i : ℕ) (lo : List ℕ) (ks : List Branch) where
-  pub last-room : ks ≡ [] → all_have_room es (branch i lo ∷ ks) hi s ≡ true → has_room es i lo hi s ≡ true
-  unfolding branch_high
-  last-room e h = room-first es (branch i lo) [] hi s (ap (λ l. all_have_room es (branch i lo ∷ l) hi s) (sym e) ∙ h)
+  module _ (i : ℕ) (lo h : List ℕ) (us : List Branch) (e : ks ≡ branch i lo ∷ us) (g : h ≡ branch_high hi us) where
+    all_room : all_have_room es ks hi s ≡ true → all_have_room es (branch i lo ∷ us) hi s ≡ true
+    all_room r = ap (λ l. all_have_room es l hi s) (sym e) ∙ r
 
-  pub last-takes : (result : List ℕ) → ks ≡ [] → s' ≡ child_takes es i lo hi s → each_takes (child_takes es) (branch i lo ∷ ks) hi s ≡ result → s' ≡ result
-  unfolding each_takes branch_high
-  last-takes result e q inv = q ∙ ap (λ l. each_takes (child_takes es) (branch i lo ∷ l) hi s) (sym e) ∙ inv
+    apart : once (branch_numbers ks) ≡ true → once (branch_numbers (branch i lo ∷ us)) ≡ true
+    apart o = ap (λ l. once (branch_numbers l)) (sym e) ∙ o
 
-  module _ (k : ℕ) (p : List ℕ) (us : List Branch) (e : ks ≡ branch k p ∷ us) where
-    all_room : all_have_room es (branch i lo ∷ ks) hi s ≡ true → all_have_room es (branch i lo ∷ branch k p ∷ us) hi s ≡ true
-    all_room h = ap (λ l. all_have_room es (branch i lo ∷ l) hi s) (sym e) ∙ h
+    pub child-room : all_have_room es ks hi s ≡ true → has_room es i lo h s ≡ true
+    child-room r = ap (λ x. has_room es i lo x s) g ∙ room-first es (branch i lo) us hi s (all_room r)
 
-    pub next-room : all_have_room es (branch i lo ∷ ks) hi s ≡ true → has_room es i lo p s ≡ true
-    unfolding branch_high
-    next-room h = room-first es (branch i lo) (branch k p ∷ us) hi s (all_room h)
+    pub later-once : once (branch_numbers ks) ≡ true → once (branch_numbers us) ≡ true
+    later-once o = (once-first (branch i lo) us (apart o)).1
 
-    apart : once (branch_numbers (branch i lo ∷ ks)) ≡ true → once (branch_numbers (branch i lo ∷ branch k p ∷ us)) ≡ true
-    apart o = ap (λ l. once (branch_numbers (branch i lo ∷ l))) (sym e) ∙ o
+    module _ (s' : List ℕ) (q : s' ≡ child_takes es i lo h s) where
+      taken : s' ≡ child_takes es i lo (branch_high hi us) s
+      taken = q ∙ ap (λ x. child_takes es i lo x s) g
 
-    pub next-once : once (branch_numbers (branch i lo ∷ ks)) ≡ true → once (branch_numbers (branch k p ∷ us)) ≡ true
-    next-once o = (once-first (branch i lo) (branch k p ∷ us) (apart o)).1
+      pub later-room : once (branch_numbers ks) ≡ true → all_have_room es ks hi s ≡ true → all_have_room es us hi s' ≡ true
+      later-room o r = ap (all_have_room es us hi) taken ∙ laws.rooms-on es (branch i lo) us hi s (apart o) (all_room r)
 
-    pub next-rooms : once (branch_numbers (branch i lo ∷ ks)) ≡ true → all_have_room es (branch i lo ∷ ks) hi s ≡ true → s' ≡ child_takes es i lo p s
-        → all_have_room es (branch k p ∷ us) hi s' ≡ true
-    unfolding branch_high
-    next-rooms o h q = ap (all_have_room es (branch k p ∷ us) hi) q ∙ rooms-on es (branch i lo) (branch k p ∷ us) hi s (apart o) (all_room h)
-
-    pub next-takes : (result : List ℕ) → s' ≡ child_takes es i lo p s → each_takes (child_takes es) (branch i lo ∷ ks) hi s ≡ result
-        → each_takes (child_takes es) (branch k p ∷ us) hi s' ≡ result
-    unfolding each_takes branch_high
-    next-takes result q inv = ap (each_takes (child_takes es) (branch k p ∷ us) hi) q ∙ ap (λ l. each_takes (child_takes es) (branch i lo ∷ l) hi s) (sym e) ∙ inv
+      pub takes_on : (result : List ℕ) → each_takes (child_takes es) ks hi s ≡ result → each_takes (child_takes es) us hi s' ≡ result
+      unfolding each_takes
+      takes_on result inv = ap (each_takes (child_takes es) us hi) taken ∙ ap (λ l. each_takes (child_takes es) l hi s) (sym e) ∙ inv

@@ -2,6 +2,7 @@ pub mod Laws
 pub mod High
 pub mod Outcome
 pub mod Sides
+pub mod Brings
 pub mod ReadSteps
 pub mod WriteSteps
 pub mod ChildSteps

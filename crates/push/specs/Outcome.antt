@@ -1,5 +1,5 @@
--- What a flush by one level promises, by its answer, and what the flush of a node relies on. Definitions only.
-use Rattle.std.specs.Prelude.{ℕ, ◌≡◌, List, [], true, length}
+-- What a flush by one level promises, by its answer (whether all is done), and what the flush of a node relies on. Definitions only.
+use Rattle.std.specs.Prelude.{ℕ, ◌≡◌, List, [], Bool, true, false, length}
 use Rattle.image.specs.Prelude.{some}
 use Rattle.image.specs.Image.{whole_nodes, tree_of}
 use Rattle.image.specs.Sound.{sound, highest}
@@ -7,12 +7,11 @@ use Rattle.image.specs.Upkeep.{reachable_at, reachable_nodes}
 use Rattle.image.specs.Contract.{is_interior}
 use Rattle.push.specs.Laws.High.{high_here}
 use Rattle.push.specs.Laws.PushedDown.{PushedDown}
-use Rattle.push.specs.declared.Pushed.{Pushed}
 
 -- done: the image is sound, its table the same, and no node of the level holds a message in the node's range; no room: no byte is changed
-unfoldable pub Outcome : List ℕ → ℕ → Pushed → List ℕ → Type 0
-Outcome s n Pushed.Done s' = PushedDown s n s'
-Outcome s n Pushed.NoRoom s' = s' ≡ s
+unfoldable pub Outcome : List ℕ → ℕ → Bool → List ℕ → Type 0
+Outcome s n true s' = PushedDown s n s'
+Outcome s n false s' = s' ≡ s
 
 pub record Pushable (s : List ℕ) (n : ℕ) (hi : List ℕ) : Type 0 where
   pub whole : whole_nodes (length s) ≡ true

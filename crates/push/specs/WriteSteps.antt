@@ -1,43 +1,42 @@
 -- Step lemmas of the writers: entries put into a page one after the other, and a page written as a node.
 -- Relies on octets' `put` and its laws, and on Laws/Written.
-use Rattle.std.specs.Prelude.{ℕ, ◌+◌, ◌-◌, ◌*◌, ◌<◌, ◌≤◌, ◌≡◌, refl, List, [], ◌∷◌, ◌++◌, true, length, drop, ltb}
-use Rattle.image.specs.Prelude.{sym, ap, ap₂, ◌∙◌, arith, length-append, ltb-true}
-use Rattle.image.specs.Bytes.{u16, u16_bytes}
+use Rattle.std.specs.Prelude.{ℕ, ◌+◌, ◌*◌, ◌<◌, ◌≤◌, ◌≡◌, List, [], ◌∷◌, ◌++◌, true, length, ltb}
+use Rattle.image.specs.Prelude.{sym, ap, ap₂, ◌∙◌, append_assoc, append-nil, arith, length-append, ltb-true}
+use Rattle.image.specs.Bytes.{u16}
 use Rattle.image.specs.Entry as defined
 use Rattle.octets.specs.Put.{put, put-put, put-nil}
-use Rattle.laws.specs.Encode.{bytes_of, keyed_entry, short_entry, put-entry, drop-entry, clear-entry, child-size}
-use Rattle.node.specs.Cut.{cut, cut-length}
-use Rattle.node.specs.Places.{part, message_in}
-use Rattle.node.specs.declared.Place.{Place}
-use Rattle.node.specs.declared.Message.{Message}
+use Rattle.laws.specs.Encode.{bytes_of, child-size}
 use Rattle.image.specs.Image.{Branch}
 use Rattle.octets.specs.Order.{and_left, and_right}
 use Rattle.laws.specs.WriteNode.{write_node}
-use Rattle.laws.specs.Page.{page, zeros_of}
-use Rattle.node.specs.Pages.{page-written}
-use Rattle.push.specs.Laws.Arriving.{lowered_by, brought, brought_all}
+use Rattle.laws.specs.Page.{page}
+use Rattle.node.specs.Search.Own.{branch}
+use Rattle.push.specs.Laws.Arriving.{brought, brought_all}
 use Rattle.push.specs.Laws.Written.{body_of, lengthened, interior_takes, has_room, child_bytes, small_numbers}
-use Rattle.push.specs.Laws.Only.{room-inside, room_fits}
+use Rattle.push.specs.Laws.Only.{body-fits}
 
--- A MESSAGE IN THE CHILD'S FORM
-module _ (s : List ℕ) (m : Message) (p : Place) (k x : ℕ) (past : (t : List ℕ) → cut t x p.stop ≡ drop k (cut t p.start p.stop)) where
-  pub put-bytes : (v : Place) → m ≡ Message.Put p v → keyed_entry 32 (cut s x p.stop) (cut s v.start v.stop) ≡ bytes_of (defined.message (lowered_by k (message_in s m)))
-  unfolding lowered_by
-  put-bytes v e =
-      ap (λ l. keyed_entry 32 l (part s v)) (past s) ∙ sym (put-entry (drop k (part s p)) (part s v))
-      ∙ ap (λ q. bytes_of (defined.message (lowered_by k (message_in s q)))) (sym e)
+-- ENTRIES ONE BEHIND THE OTHER ON A PAGE: it shows `now`, and `rest` is left of what shall be all
+module _ (now all rest one more : List ℕ) (split : rest ≡ one ++ more) (inv : now ++ rest ≡ all) where
+  parted : now ++ (one ++ more) ≡ all
+  parted = ap (λ l. now ++ l) (sym split) ∙ inv
 
-  pub drop-bytes : m ≡ Message.Drop p → short_entry 33 (cut s x p.stop) ≡ bytes_of (defined.message (lowered_by k (message_in s m)))
-  unfolding lowered_by
-  drop-bytes e =
-      ap (short_entry 33) (past s) ∙ sym (drop-entry (drop k (part s p)))
-      ∙ ap (λ q. bytes_of (defined.message (lowered_by k (message_in s q)))) (sym e)
+  pub page-fits : (b : List ℕ) → one ≡ b → length all ≤ 1016 → length now + length b ≤ 1016
+  page-fits b e h = let a = ap length parted in let f = length-append now (one ++ more) in let g = length-append one more in let z = ap length e in omega arith
 
-  pub clear-bytes : m ≡ Message.Clear p → short_entry 34 (cut s x p.stop) ≡ bytes_of (defined.message (lowered_by k (message_in s m)))
-  unfolding lowered_by
-  clear-bytes e =
-      ap (short_entry 34) (past s) ∙ sym (clear-entry (drop k (part s p)))
-      ∙ ap (λ q. bytes_of (defined.message (lowered_by k (message_in s q)))) (sym e)
+  pub page-on : (b now' : List ℕ) → one ≡ b → now' ≡ now ++ b → now' ++ more ≡ all
+  page-on b now' e h = ap (λ l. l ++ more) (h ∙ ap (λ l. now ++ l) (sym e)) ∙ append_assoc now one more ∙ parted
+
+  pub page-skips : one ≡ [] → now ++ more ≡ all
+  page-skips h = ap (λ l. now ++ (l ++ more)) (sym h) ∙ parted
+
+pub page-stays : (now all rest more : List ℕ) → rest ≡ more → now ++ rest ≡ all → now ++ more ≡ all
+page-stays now all rest more e inv = ap (λ l. now ++ l) (sym e) ∙ inv
+
+pub whole-fits : (old new : List ℕ) → length old + length new ≤ 1016 → length (old ++ new) ≤ 1016
+whole-fits old new h = let a = length-append old new in omega arith
+
+pub page-ends : (now all rest : List ℕ) → rest ≡ [] → now ++ rest ≡ all → now ≡ all
+page-ends now all rest e inv = sym (append-nil now) ∙ ap (λ l. now ++ l) (sym e) ∙ inv
 
 -- WHAT IS PUT, AND ITS LENGTH, UNDER ANOTHER NAME
 module _ (page now : List ℕ) (at r n : ℕ) (a b : List ℕ) (e : a ≡ b) where
@@ -106,22 +105,23 @@ small-later ks us k q e = and_right (ltb k.number 65536) _ (ap small_numbers (sy
 pub as-child : (i : ℕ) (s : List ℕ) (to r : ℕ) → r ≡ to + (6 + length s) → r ≡ to + length (bytes_of (defined.child i s))
 as-child i s to r e = let z = child-size i s in omega arith
 
+-- the children left, one off
+module _ (ks us : List Branch) (i : ℕ) (lo : List ℕ) (e : ks ≡ branch i lo ∷ us) where
+  pub child-off : child_bytes ks ≡ bytes_of (defined.child i lo) ++ child_bytes us
+  child-off = children-cons ks us (branch i lo) e
+
+  pub child-small : small_numbers ks ≡ true → i < 65536
+  child-small h = small-first ks us (branch i lo) e h
+
+  pub children-small : small_numbers ks ≡ true → small_numbers us ≡ true
+  children-small h = small-later ks us (branch i lo) e h
+
 -- AN INTERIOR CHILD, WRITTEN
-module _ (es : List defined.Entry) (i : ℕ) (lo hi s : List ℕ) (room : has_room es i lo hi s ≡ true) where
-  pub interior-written : (len level e : ℕ) (p₁ p₂ s' : List ℕ) → len ≡ u16 s (i * 1024) → level ≡ u16 s (i * 1024 + 4)
-      → p₁ ≡ put (zeros_of 1024) 8 (cut s (i * 1024 + 8) (i * 1024 + 8 + len)) → p₂ ≡ put p₁ (8 + len) (brought_all es lo hi) → e ≡ 8 + len + length (brought_all es lo hi)
-      → s' ≡ put s (i * 1024) (put (put (put p₂ 0 (u16_bytes (e - 8))) 2 (u16_bytes 2)) 4 (u16_bytes level)) → s' ≡ interior_takes es i lo hi s
-  unfolding interior_takes lengthened
-  interior-written len level e p₁ p₂ s' el ev a b c d =
-      let inside = room-inside es i lo hi s room in
-      let fits = room_fits es i lo hi s room in
-      let whole : body_of s i ≡ cut s (i * 1024 + 8) (i * 1024 + 8 + len) = ap (λ n. cut s (i * 1024 + 8) (i * 1024 + 8 + n)) (sym el) in
-      let n : length (body_of s i) ≡ len = ap length whole ∙ cut-length s (i * 1024 + 8) (i * 1024 + 8 + len) (omega arith) (omega arith) ∙ omega arith in
-      let m = length-append (body_of s i) (brought_all es lo hi) in
-      let z : length (zeros_of 1024) ≡ 1024 = unfold zeros_of in refl in
-      let at : 8 + len ≡ 8 + length (body_of s i) = omega arith in
-      let t₂ : p₂ ≡ put (zeros_of 1024) 8 (body_of s i ++ brought_all es lo hi) =
-      b ∙ ap₂ (λ x y. put x y (brought_all es lo hi)) (a ∙ ap (put (zeros_of 1024) 8) (sym whole)) at
-      ∙ put-put (zeros_of 1024) 8 (body_of s i) (brought_all es lo hi) (omega arith) in
-      page-written s s' p₂ i 2 level e (body_of s i ++ brought_all es lo hi) (omega arith) t₂ (omega arith) d
-      ∙ ap (λ v. write_node s i (page 2 v (body_of s i ++ brought_all es lo hi))) ev
+pub body-short : (es : List defined.Entry) (i : ℕ) (lo hi s body : List ℕ) → has_room es i lo hi s ≡ true → body ≡ body_of s i → length body ≤ 1016
+body-short es i lo hi s body r b =
+    let f = body-fits es i lo hi s r in let z = length-append (body_of s i) (brought_all es lo hi) in let w = ap length b in omega arith
+
+pub interior-written : (es : List defined.Entry) (i : ℕ) (lo hi s : List ℕ) (level : ℕ) (p s' : List ℕ) → level ≡ u16 s (i * 1024 + 4) → p ≡ body_of s i ++ brought_all es lo hi
+    → s' ≡ write_node s i (page 2 level p) → s' ≡ interior_takes es i lo hi s
+unfolding interior_takes lengthened
+interior-written es i lo hi s level p s' ev q w = w ∙ ap₂ (λ v l. write_node s i (page 2 v l)) ev q

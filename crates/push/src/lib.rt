@@ -6,14 +6,14 @@
 
 pub mod high;
 mod leaf;
-pub mod message;
+mod message;
 pub mod room;
 
 ghost use Rattle.std.specs.Prelude.{◌≡◌, true, ◌+◌, ◌*◌, ◌<◌, ◌≤◌, length};
 ghost use Rattle.image.specs.Sound.{once, sound};
-ghost use Rattle.octets.specs.Put.{put};
-ghost use Rattle.node.specs.Entries.{listed};
-ghost use Rattle.node.specs.Search.Own.{branches_among};
+ghost use Rattle.node.specs.Cut.{cut};
+ghost use Rattle.node.specs.Lent.{left_of};
+ghost use Rattle.node.specs.Spans.{pending_of};
 ghost use Rattle.push.specs.Laws.Written.{child_takes, each_takes, has_room, all_have_room, branch_numbers, child_bytes, small_numbers, emptied};
 ghost use Rattle.push.specs.Outcome.{Pushable, Outcome};
 ghost use Rattle.image.specs.Image.{whole_nodes};
@@ -21,145 +21,91 @@ ghost use Rattle.image.specs.Upkeep.{reachable_at, reachable_nodes};
 ghost use Rattle.image.specs.Contract.{is_interior};
 ghost use Rattle.node.specs.Whole.{HasNode};
 
-use high::Sought;
-use node::entries::Entries;
-use node::search::Pending;
-use node::{Cursor, writer};
+use node::branches::{Branch, Branches};
+use node::entries::{Entries, Entry};
+use node::page::Page;
 
-// What came of a flush by one level: all messages are with the children, or a child has no room and nothing is changed.
-#[derive(Clone, Copy)]
-pub enum Pushed {
-    Done,
-    NoRoom,
-}
-
-// A child with these pivots takes what the entries of the node bring: a leaf is of kind 1.
-fn push_child(store: &mut [u8], num: usize, node: &[u8], stop: usize, lo: &[u8], hi: &[u8])
-    requires { (stop ≤ length node.now) × (length node.now ≤ 1024) × (has_room (listed node.now 8 stop) num lo.now hi.now store.old ≡ true) }
-    ensures { store.new ≡ child_takes (listed node.now 8 stop) num lo.now hi.now store.old }
+// A child takes what the entries of the node bring: a leaf is of kind 1.
+fn push_child(store: &mut [u8], child: Branch, entries: Entries)
+    requires { has_room (left_of entries) child.number child.low.now child.high.now store.old ≡ true }
+    ensures { store.new ≡ child_takes (left_of entries.entry) child.entry.number child.entry.low.now child.entry.high.now store.old }
 {
-    let kind = node::header::read_kind(store, num * image::NODE_SIZE);
+    let kind = node::header::read_kind(store, child.number * image::NODE_SIZE);
     if kind == image::LEAF {
-        leaf::push_leaf(store, num, node, stop, lo, hi);
-        return;
+        leaf::push_leaf(store, child, entries);
+    } else {
+        message::push_interior(store, child, entries);
     }
-    message::push_interior(store, num, node, stop, lo, hi);
 }
 
 // Each child in turn does.
-fn push_children(store: &mut [u8], node: &[u8], stop: usize, hi: &[u8])
-    requires { (stop ≤ length node.now)
-        × (length node.now ≤ 1024)
-        × (all_have_room (listed node.now 8 stop) (branches_among (listed node.now 8 stop)) hi.now store.old ≡ true)
-        × (once (branch_numbers (branches_among (listed node.now 8 stop))) ≡ true) }
-    ensures { store.new ≡ each_takes (child_takes (listed node.now 8 stop)) (branches_among (listed node.now 8 stop)) hi.now store.old }
+fn push_children(store: &mut [u8], children: Branches, entries: Entries)
+    requires { (all_have_room (left_of entries) (pending_of children) children.high.now store.old ≡ true)
+        × (once (branch_numbers (pending_of children)) ≡ true) }
+    ensures { store.new ≡ each_takes (child_takes (left_of entries.entry)) (pending_of children.entry) children.entry.high.now store.old }
 {
-    let Pending::Child(first, pivot, start) = node::search::first_child(node, stop) else {
-        return;
-    };
-    let mut c = start;
-    let mut num = first;
-    let mut low = pivot;
-    loop {
-        let a = low.start;
-        let b = low.stop;
-        let Pending::Child(k, p, next) = node::search::read_child(node, c) else {
-            push_child(store, num, node, stop, &node[a..b], hi);
-            return;
-        };
-        let x = p.start;
-        let y = p.stop;
-        push_child(store, num, node, stop, &node[a..b], &node[x..y]);
-        num = k;
-        low = p;
-        c = next;
-    }
-}
-
-// The child entries of the node. Gives the place behind them.
-fn emit_children(page: &mut [u8], at: usize, node: &[u8], stop: usize) -> usize
-    requires { (stop ≤ length node.now)
-        × (at + length (child_bytes (branches_among (listed node.now 8 stop))) ≤ length page.old)
-        × (length page.old ≤ 1024)
-        × (small_numbers (branches_among (listed node.now 8 stop)) ≡ true) }
-    ensures { (page.new ≡ put page.old at (child_bytes (branches_among (listed node.now 8 stop))))
-        × (result ≡ at + length (child_bytes (branches_among (listed node.now 8 stop)))) }
-{
-    let mut c = Cursor {
-        at: image::ENTRIES_AT,
-        end: stop,
-    };
-    let mut to = at;
-    loop {
-        let Pending::Child(k, p, next) = node::search::read_child(node, c) else {
-            return to;
-        };
-        let a = p.start;
-        let b = p.stop;
-        to = writer::write_child(page, to, k, &node[a..b]);
-        c = next;
+    for child in children {
+        push_child(store, child, entries);
     }
 }
 
 // The node with its children alone.
-fn clear_messages(store: &mut [u8], num: usize, node: &[u8], stop: usize, level: usize)
-    requires { (stop ≤ length node.now)
-        × HasNode store.old num
+fn clear_messages(store: &mut [u8], num: usize, children: Branches, level: usize)
+    requires { HasNode store.old num
         × (level < 65536)
-        × (length (child_bytes (branches_among (listed node.now 8 stop))) ≤ 1016)
-        × (small_numbers (branches_among (listed node.now 8 stop)) ≡ true) }
-    ensures { store.new ≡ emptied store.old num level (branches_among (listed node.now 8 stop)) }
+        × (length (child_bytes (pending_of children)) ≤ 1016)
+        × (small_numbers (pending_of children) ≡ true) }
+    ensures { store.new ≡ emptied store.old num level (pending_of children.entry) }
 {
-    let mut page = [0u8; 1024];
-    let end = emit_children(&mut page, image::ENTRIES_AT, node, stop);
-    writer::write_page(
-        store,
-        num,
-        &mut page,
-        image::INTERIOR,
-        level,
-        end - image::ENTRIES_AT,
-    );
+    let mut page = Page::new();
+    for child in children {
+        page.push(Entry::Child(child.number, child.low));
+    }
+    page.write(store, num, image::INTERIOR, level);
 }
 
-// The flush of a node whose high pivot, without what the node lifts, is hi. The test that all fits comes before the first write.
-fn push_node(store: &mut [u8], num: usize, hi: &[u8]) -> Pushed
-    requires { Pushable store.old num hi.now }
-    ensures { Outcome store.old num result store.new }
+// A node of the store, copied.
+pub fn copy_node(store: &[u8], num: usize) -> [u8; 1024]
+    requires { HasNode store.now num }
+    ensures { result ≡ cut store.now (num * 1024) (num * 1024 + 1024) }
 {
     let at = num * image::NODE_SIZE;
-    let len = node::header::read_length(store, at);
-    let level = node::header::read_level(store, at);
-    let stop = image::ENTRIES_AT + len;
-    let end = at + image::NODE_SIZE;
-    let mut node = [0u8; 1024];
-    octets::copy_at(&mut node, 0, &store[at..end]);
-    let entries = Entries {
-        rest: &node[image::ENTRIES_AT..stop],
-    };
-    if !node::search::has_messages(entries) {
-        return Pushed::Done;
-    }
-    if !room::all_fit(store, &node, stop, hi) {
-        return Pushed::NoRoom;
-    }
-    push_children(store, &node, stop, hi);
-    clear_messages(store, num, &node, stop, level);
-    Pushed::Done
+    let mut node = [0; 1024];
+    node.copy_from_slice(&store[at..at + image::NODE_SIZE]);
+    node
 }
 
-// All messages of a reachable interior node to its children, if these have room. A reachable node is found and its pivot is at most 65
-// bytes, so the first two exits are not taken; the answer that nothing is changed is right there without a proof of that.
-pub fn push_down(store: &mut [u8], num: usize) -> Pushed
+// The flush of a node whose high pivot, without what the node lifts, is high. The test that all fits comes before the first write.
+fn push_node(store: &mut [u8], num: usize, high: &[u8]) -> bool
+    requires { Pushable store.old num high.now }
+    ensures { Outcome store.old num result store.new }
+{
+    let level = node::header::read_level(store, num * image::NODE_SIZE);
+    // The entries are read while the children are written, from a copy of the node.
+    let node = copy_node(store, num);
+    let entries = Entries::of_node(&node, 0);
+    let children = Branches::among(entries, high);
+    if !node::search::has_messages(entries) {
+        return true;
+    }
+    if !room::all_fit(store, children, entries) {
+        return false;
+    }
+    push_children(store, children, entries);
+    clear_messages(store, num, children, level);
+    true
+}
+
+// All messages of a reachable interior node to its children, if these have room: else nothing is changed, and the answer is false. A reachable
+// node is found and its pivot is at most 65 bytes, so the first exit is not taken; the answer that nothing is changed is right there without a
+// proof of that.
+pub fn push_down(store: &mut [u8], num: usize) -> bool
     requires { (whole_nodes (length store.old) ≡ true) × (sound store.old ≡ true) × (is_interior (reachable_at num (reachable_nodes store.old)) ≡ true) }
     ensures { Outcome store.old num result store.new }
 {
-    let mut high = [0u8; 1024];
-    let Sought::Found(n) = high::find_high(store, num, &mut high) else {
-        return Pushed::NoRoom;
+    let mut buffer = [0u8; image::PIVOT_LIMIT];
+    let Some(high) = high::keep_high(store, num, &mut buffer) else {
+        return false;
     };
-    if 1024 < n {
-        return Pushed::NoRoom;
-    }
-    push_node(store, num, &high[0..n])
+    push_node(store, num, high)
 }

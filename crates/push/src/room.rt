@@ -1,43 +1,30 @@
 // Whether all children of an interior node have room for its messages: which of them touch a child, and how many bytes they take there.
 // Only reads. Relies on the readers of nodes (node) and on octets; specs/Laws says what a message brings and what room is.
-ghost use Rattle.std.specs.Prelude.{◌≡◌, List, ℕ, ◌+◌, ◌<◌, ◌≤◌, length, drop, leb};
+ghost use Rattle.std.specs.Prelude.{◌≡◌, List, ℕ, ◌<◌, ◌≤◌, ◌+◌, length, drop, leb};
 ghost use Rattle.image.specs.Entry.{message};
-ghost use Rattle.laws.specs.Encode.{bytes_of};
+ghost use Rattle.laws.specs.Encode.{bytes_of, bytes_of_all};
 ghost use Rattle.laws.specs.PushDown.{touches};
 ghost use Rattle.node.specs.Cut.{cut};
-ghost use Rattle.node.specs.Places.{EntryWithin, MessageWithin, entry_in, message_in};
-ghost use Rattle.node.specs.Entries.{listed};
-ghost use Rattle.node.specs.Search.Own.{branches_among};
-ghost use Rattle.push.specs.Laws.Arriving.{lowered_by, brought, brought_all};
+ghost use Rattle.node.specs.Lent.{entry_is, message_is, left_of};
+ghost use Rattle.node.specs.Spans.{pending_of};
+ghost use Rattle.push.specs.Laws.Arriving.{lowered_by, brought_all};
 ghost use Rattle.push.specs.Laws.Written.{has_room, all_have_room};
+ghost use Rattle.push.specs.Brings.{Brings};
 
-use node::search::Pending;
-use node::{Cursor, Entry, Message, Place, Step};
+use node::Place;
+use node::branches::{Branch, Branches};
+use node::entries::{Entries, Entry, Message};
 
 // Whether a message touches a child with these pivots: the child owns its path, or a clear and what the child lifts begin alike.
-pub fn touches_child(node: &[u8], m: Message, lo: &[u8], hi: &[u8]) -> bool
-    requires { MessageWithin 0 (length node.now) m }
-    ensures { result ≡ touches (message_in node.now m) lo.now hi.now }
+#[tactic(auto, unfolding(laws::specs::PushDown::touches))]
+fn touches_child(given: Message, child: Branch) -> bool
+    ensures { result ≡ touches (message_is given.entry) child.entry.low.now child.entry.high.now }
 {
-    match m {
-        Message::Put(p, _) => {
-            let a = p.start;
-            let b = p.stop;
-            octets::owned(lo, hi, &node[a..b])
-        }
-        Message::Drop(p) => {
-            let a = p.start;
-            let b = p.stop;
-            octets::owned(lo, hi, &node[a..b])
-        }
-        Message::Clear(p) => {
-            let a = p.start;
-            let b = p.stop;
-            let k = octets::common_length(lo, hi);
-            if octets::begins_with(&node[a..b], &lo[0..k]) {
-                return true;
-            }
-            octets::begins_with(&lo[0..k], &node[a..b])
+    match given {
+        Message::Put(key, _) | Message::Drop(key) => octets::owned(child.low, child.high, key),
+        Message::Clear(key) => {
+            let lifted = &child.low[..octets::common_length(child.low, child.high)];
+            octets::begins_with(key, lifted) || octets::begins_with(lifted, key)
         }
     }
 }
@@ -55,104 +42,88 @@ pub fn start_past(p: Place, k: usize) -> usize
     a + k
 }
 
-// The size of a message's entry in a child that lifts k bytes more.
-fn message_size(node: &[u8], m: Message, k: usize) -> usize
-    requires { MessageWithin 0 (length node.now) m × (length node.now ≤ 1024) }
-    ensures { (result ≡ length (bytes_of (message (lowered_by k (message_in node.now m))))) × (result ≤ 4096) }
+// A key without its first k bytes: empty if it has no more.
+pub fn past(key: &[u8], k: usize) -> &[u8]
+    ensures { result.now ≡ drop k key.now }
 {
-    match m {
-        Message::Put(p, v) => {
-            let x = start_past(p, k);
-            6 + (p.stop - x) + (v.stop - v.start)
-        }
-        Message::Drop(p) => {
-            let x = start_past(p, k);
-            4 + (p.stop - x)
-        }
-        Message::Clear(p) => {
-            let x = start_past(p, k);
-            4 + (p.stop - x)
-        }
+    key.get(k..).unwrap_or(&[])
+}
+
+// A message in a child that lifts k bytes more.
+#[tactic(auto, unfolding(crate::specs::Laws::Arriving::lowered_by))]
+fn lowered(given: Message, k: usize) -> Message
+    ensures { message_is result ≡ lowered_by k (message_is given.entry) }
+{
+    match given {
+        Message::Put(key, value) => Message::Put(past(key, k), value),
+        Message::Drop(key) => Message::Drop(past(key, k)),
+        Message::Clear(key) => Message::Clear(past(key, k)),
     }
 }
 
-// How many bytes an entry of the node brings to a child with these pivots.
-fn entry_size(node: &[u8], e: Entry, lo: &[u8], hi: &[u8]) -> usize
-    requires { EntryWithin 0 (length node.now) e × (length node.now ≤ 1024) }
-    ensures { (result ≡ length (brought (entry_in node.now e) lo.now hi.now)) × (result ≤ 4096) }
+// What an entry of the node brings to a child with these pivots: a message that touches it, in the child's own form.
+pub fn brought<'a>(entry: Entry<'a>, child: Branch) -> Option<Message<'a>>
+    ensures { Brings (entry_is entry.entry) child.entry.low.now child.entry.high.now result }
 {
-    match e {
-        Entry::Pair(_, _) => 0,
-        Entry::Child(_, _) => 0,
-        Entry::Message(m) => {
-            if !touches_child(node, m, lo, hi) {
-                return 0;
-            }
-            let k = octets::common_length(lo, hi);
-            message_size(node, m, k)
-        }
+    let Entry::Message(given) = entry else {
+        return None;
+    };
+    if !touches_child(given, child) {
+        return None;
+    }
+    Some(lowered(given, octets::common_length(child.low, child.high)))
+}
+
+// The size of a message's entry.
+fn message_size(given: Message) -> usize
+    requires { length (bytes_of (message (message_is given))) ≤ 1024 }
+    ensures { result ≡ length (bytes_of (message (message_is given.entry))) }
+{
+    match given {
+        Message::Put(key, value) => 6 + key.len() + value.len(),
+        Message::Drop(key) => 4 + key.len(),
+        Message::Clear(key) => 4 + key.len(),
     }
 }
 
 // Whether a child with these pivots and so many bytes of entries has room for what the entries of the node bring.
-fn messages_fit(node: &[u8], from: usize, stop: usize, lo: &[u8], hi: &[u8], used: usize) -> bool
-    requires { (stop ≤ length node.now) × (length node.now ≤ 1024) × (used < 65536) }
-    ensures { result ≡ leb (used + length (brought_all (listed node.now from stop) lo.now hi.now)) 1016 }
+fn messages_fit(entries: Entries, child: Branch, used: usize) -> bool
+    requires { (length (bytes_of_all (left_of entries)) ≤ 1024) × (used < 65536) }
+    ensures { result ≡ leb (used + length (brought_all (left_of entries.entry) child.entry.low.now child.entry.high.now)) 1016 }
 {
-    let mut c = Cursor {
-        at: from,
-        end: stop,
-    };
     let mut sum = used;
-    while c.at < stop {
+    for entry in entries {
         if image::ENTRIES_LIMIT < sum {
             return false;
         }
-        let Step::Read(e, next) = c.step(node) else {
-            return sum <= image::ENTRIES_LIMIT;
-        };
-        sum = sum + entry_size(node, e, lo, hi);
-        c = next;
+        if let Some(given) = brought(entry, child) {
+            sum += message_size(given);
+        }
     }
     sum <= image::ENTRIES_LIMIT
 }
 
 // Whether a child is a node of the store and has room for what the entries of the node bring.
-fn child_fits(store: &[u8], num: usize, node: &[u8], stop: usize, lo: &[u8], hi: &[u8]) -> bool
-    requires { (stop ≤ length node.now) × (length node.now ≤ 1024) }
-    ensures { result ≡ has_room (listed node.now 8 stop) num lo.now hi.now store.now }
+fn child_fits(store: &[u8], child: Branch, entries: Entries) -> bool
+    requires { length (bytes_of_all (left_of entries)) ≤ 1024 }
+    ensures { result ≡ has_room (left_of entries.entry) child.entry.number child.entry.low.now child.entry.high.now store.now }
 {
-    if store.len() / image::NODE_SIZE <= num {
+    if store.len() / image::NODE_SIZE <= child.number {
         return false;
     }
-    let used = node::header::read_length(store, num * image::NODE_SIZE);
-    messages_fit(node, image::ENTRIES_AT, stop, lo, hi, used)
+    let used = node::header::read_length(store, child.number * image::NODE_SIZE);
+    messages_fit(entries, child, used)
 }
 
 // Whether each child does.
-pub fn all_fit(store: &[u8], node: &[u8], stop: usize, hi: &[u8]) -> bool
-    requires { (stop ≤ length node.now) × (length node.now ≤ 1024) }
-    ensures { result ≡ all_have_room (listed node.now 8 stop) (branches_among (listed node.now 8 stop)) hi.now store.now }
+pub fn all_fit(store: &[u8], children: Branches, entries: Entries) -> bool
+    requires { length (bytes_of_all (left_of entries)) ≤ 1024 }
+    ensures { result ≡ all_have_room (left_of entries.entry) (pending_of children.entry) children.entry.high.now store.now }
 {
-    let Pending::Child(first, pivot, start) = node::search::first_child(node, stop) else {
-        return true;
-    };
-    let mut c = start;
-    let mut num = first;
-    let mut low = pivot;
-    loop {
-        let a = low.start;
-        let b = low.stop;
-        let Pending::Child(k, p, next) = node::search::read_child(node, c) else {
-            return child_fits(store, num, node, stop, &node[a..b], hi);
-        };
-        let x = p.start;
-        let y = p.stop;
-        if !child_fits(store, num, node, stop, &node[a..b], &node[x..y]) {
+    for child in children {
+        if !child_fits(store, child, entries) {
             return false;
         }
-        num = k;
-        low = p;
-        c = next;
     }
+    true
 }

@@ -41,14 +41,11 @@ pub fn get_fit(store: &[u8], path: &[u8], buffer: &mut [u8]) -> Result<usize, Re
     if buffer.len() < image::VALUE_LIMIT {
         return Err(Refusal::ShortBuffer);
     }
-    let found = lookup::value_of(store, path);
-    let node::search::Found::Value(value) = found else {
+    let Some(value) = lookup::value_of(store, path) else {
         return Err(Refusal::Absent); // the path has no value
     };
-    let start = value.start;
-    let stop = value.stop;
-    octets::copy_at(buffer, 0, &store[start..stop]);
-    Ok(stop - start)
+    octets::copy_at(buffer, 0, value);
+    Ok(value.len())
 }
 
 // The value of a path, at the front of the buffer.
@@ -85,15 +82,12 @@ pub fn next_fit(
     if buffer.len() < image::PATH_LIMIT {
         return Err(Refusal::ShortBuffer);
     }
-    let found = successor::next_path(store, path, after);
-    let len = found.len;
-    let absent = image::PATH_LIMIT < len;
-    if absent {
+    let Some(found) = successor::next_path(store, path, after) else {
         return Err(Refusal::Absent);
-    }
-    let bytes = found.bytes;
-    octets::copy_at(buffer, 0, &bytes[0..len]);
-    Ok(len)
+    };
+    let next = found.as_slice();
+    octets::copy_at(buffer, 0, next);
+    Ok(next.len())
 }
 
 // The least path below the first and greater than the second, at the front of the buffer.

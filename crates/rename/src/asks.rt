@@ -36,8 +36,7 @@ pub fn any_below(store: &[u8], from: &[u8]) -> bool
     requires { sound store.now ≡ true }
     ensures { result ≡ not (is_empty (rows_below from.now (table_of store.now))) }
 {
-    let found = successor::next_path(store, from, &from[0..0]);
-    found.len <= image::PATH_LIMIT
+    successor::next_path(store, from, &[]).is_some()
 }
 
 // Whether the second shape has no more components and no more bytes than the first.
@@ -56,8 +55,7 @@ fn rests_fit(store: &[u8], from: &[u8], shape: Shape) -> bool
     requires { sound store.now ≡ true }
     ensures { result ≡ rests_fit (shape_is shape) from.now (table_of store.now) }
 {
-    let found = successor::next_unfit(store, from, &from[0..0], shape);
-    image::PATH_LIMIT < found.len
+    successor::next_unfit(store, from, &[], shape).is_none()
 }
 
 // Question 9: is every present path still well formed after the move?

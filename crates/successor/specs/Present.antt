@@ -15,7 +15,7 @@ use Rattle.laws.specs.Next.{Fits, least-yes, least-far, least-early, later-fits,
 use Rattle.laws.specs.Filter.{keep}
 use Rattle.path.specs.Shape.{Shape, dead, goes_on, feed-dead}
 use Rattle.path.specs.Fed.{shape_is}
-use Rattle.path.specs.declared.Shape as path
+use Rattle.std.specs.Prelude.{None}
 use Rattle.laws.specs.Formed.{row-formed}
 use Rattle.laws.specs.Reading.Seek.{holds, present, walk_same}
 use Rattle.laws.specs.Reading.SeekHere.{under, keys_here, next_here}
@@ -75,7 +75,7 @@ unfolding keep
 dead_keeps below [] = refl
 dead_keeps below (r ∷ t) = rw (dead-unfit below r.key) (ap (λ l. r ∷ l) (dead_keeps below t))
 
-pub next-any : (below after : List ℕ) (t : List Row) (r : Option (List ℕ)) → r ≡ least_after below after (keep (unfit (shape_is path.Shape.Dead) below) t) → r ≡ least_after below after t
+pub next-any : (below after : List ℕ) (t : List Row) (r : Option (List ℕ)) → r ≡ least_after below after (keep (unfit (shape_is None) below) t) → r ≡ least_after below after t
 unfolding shape_is
 next-any below after t r e = e ∙ ap (least_after below after) (dead_keeps below t)
 

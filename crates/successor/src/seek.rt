@@ -73,9 +73,9 @@ impl<'a> Seek<'a> {
         requires { length self.now.below.now ≤ length pre.now + length s.now }
         ensures { result ≡ unfit (shape_is self.now.shape) self.now.below.now (pre.now ++ s.now) }
     {
-        let Some(_) = self.shape else {
+        if self.shape.is_none() {
             return true;
-        };
+        }
         let n = pre.len();
         let cut = self.below.len();
         if n < cut {

@@ -1,16 +1,16 @@
--- The loop of `insert_puts`: the rows so far, with the entries to come, make the same table. The measure is the bytes left. Relies on specs/Dump
+-- The loop of `insert_puts`: the rows so far, with the entries left, make the same table. The measure is how many are left. Relies on specs/Dump
 -- and specs/InsertSteps.
+use Rattle.std.specs.Prelude.{◌-◌, length}
 use Rattle.live_count.specs.Walk.{passing}
 use Rattle.live_count.specs.PathBuffers.{path_in}
-use Rattle.node.specs.Entries.{listed}
+use Rattle.node.specs.Lent.{left_of}
 use Rattle.packed.specs.Rows.Area.{rows_of}
 use Rattle.dump.specs.Dump.{insert_among}
 use Rattle.dump.specs.InsertSteps.{Inserting}
-use Rattle.std.specs.Prelude.{◌-◌, ◌≡◌}
 use Rattle.dump.proofs.insert_puts.Given as goal
 
-abbrev pub invariant-loop-c : goal.invariant-loop-c
-invariant-loop-c l = (l.c.end ≡ l.end) × Inserting l.first l.initial.area l.area l.m (passing l.store l.here.trail) (path_in l.here.prefix) (listed l.store l.c.at l.c.end) (insert_among (passing l.store l.here.trail) (path_in l.here.prefix) (listed l.store l.initial.c.at l.initial.c.end) (rows_of (l.count - l.first) l.initial.area l.first))
+abbrev pub invariant-loop-entry : goal.invariant-loop-entry
+invariant-loop-entry l = Inserting l.first l.fn.area l.area l.m (passing l.trail) (path_in l.prefix) (left_of l.later) (insert_among (passing l.trail) (path_in l.prefix) (left_of l.entries) (rows_of (l.first - l.first) l.fn.area l.first))
 
-abbrev pub decreases-loop-c : goal.decreases-loop-c
-decreases-loop-c l = l.end - l.c.at
+abbrev pub decreases-loop-entry : goal.decreases-loop-entry
+decreases-loop-entry l = length (left_of l.later)

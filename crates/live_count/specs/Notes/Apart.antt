@@ -1,15 +1,21 @@
 -- Step lemmas of the functions on one note: what each exit owes.
-use Rattle.std.specs.Prelude.{ℕ, zero, suc, ◌+◌, ◌-◌, ◌*◌, ◌/◌, ◌%◌, ◌<◌, ◌≤◌, ◌≡◌, refl, List, [], ◌∷◌, ◌++◌, Bool, true, false, ◌&&◌, not, cond, length, drop, take, get_or, eqb}
-use Rattle.image.specs.Prelude.{sym, ap, ap₂, ◌∙◌, true≢false, false≢true, and-true, arith, eqb-true, ne_eqb}
+use Rattle.std.specs.Prelude.{ℕ, zero, suc, ◌+◌, ◌<◌, ◌≤◌, ◌≡◌, refl, List, [], ◌∷◌, ◌++◌, Bool, true, false, ◌&&◌, not, cond, length, drop, take, set, leb, eqb}
+use Rattle.image.specs.Prelude.{sym, ap, ap₂, ◌∙◌, true≢false, false≢true, arith, Option, none, some, eqb-true, length-drop, add-one, take-suc-set, leb-true, leb-false}
 use Rattle.image.specs.Bytes.{same, before, begins, shared}
+use Rattle.image.specs.Meaning.{nothing, says, says_of}
 use Rattle.image.specs.Path.{owns}
-use Rattle.octets.specs.Order.{and-false, not_so, not-true, same-eq, same_false, before-le, before-total, before-asym, between-begins, begins-trans, begins-append, same-append}
+use Rattle.octets.specs.Order.{and-false, not_so, same-eq, same_false, before-le, before-total, before-asym, between-begins, begins-trans, begins-append, same-append}
 use Rattle.octets.specs.Beginnings.{begins-refl, begins-length, shared-right, shared-most, begins-not-before}
 use Rattle.laws.specs.LookupTable.{not_low, under-high}
-use Rattle.laws.specs.RowsRising.{is_true}
-use Rattle.node.specs.Cut.{cut, cut-drop, cut-length, cut-nil}
-use Rattle.live_count.specs.declared.notes.Concern.{Concern}
-use Rattle.live_count.specs.Notes.Notes.{on, note_covers, quiet, Misses, Concerns}
+use Rattle.std.proofs.Math.Bool.{beq}
+use Rattle.std.specs.Borrow.{Bor}
+use Rattle.node.specs.Lent.{entry_is}
+use Rattle.node.specs.Search.Latest.{entry_says, covers}
+use Rattle.node.specs.declared.entries.Entry.{Entry}
+use Rattle.node.specs.declared.entries.Message.{Message}
+use Rattle.live_count.specs.declared.notes.Note.{Note}
+use Rattle.live_count.specs.declared.notes.Keys.{Keys}
+use Rattle.live_count.specs.Notes.Notes.{on, note_covers, Misses, Unconcerned, Uncovered, Same}
 
 -- two strings that differ in a byte of both
 pub differ-begins : (x w k : List ℕ) → length (shared x w) < length x → length (shared x w) < length w → begins x (w ++ k) ≡ false
@@ -115,21 +121,6 @@ low-begins y lo k h n u = go (begins y k) (same lo k) refl refl
     go true false e f =
         not_so (begins-trans y (shared y k) lo (shared-most y y k (begins-refl y) e) (between-begins y k lo (before-asym y lo h) (before-total lo k f u))) n
 
--- the ways out of misses
-module _ (y : List ℕ) (c : Bool) (lo : List ℕ) where
-  pub unmissed : Misses y c lo false
-  unfolding Misses
-  unmissed = λ t. absurd (false≢true t)
-
-  module _ (p : Bool) (e : p ≡ before y lo) (t : not p ≡ false) where
-    pub low_clear : c ≡ true → (b : Bool) → b ≡ begins y lo → Misses y c lo (not b)
-    unfolding Misses
-    low_clear d b f = λ n k u. on-clear c y k d ∙ low-begins y lo k (sym e ∙ is_true p t) (sym f ∙ not-true b n) u
-
-    pub low-name : c ≡ false → Misses y c lo true
-    unfolding Misses
-    low-name d = λ n k u. on-name c y k d ∙ same_false y k (λ z. not_so {A = ⊥} (rw (← z) (sym e ∙ is_true p t)) u)
-
 -- a beginning, compared as a whole with as much of the key
 begins-same : (x key : List ℕ) (n : ℕ) → n ≡ length x → n ≤ length key → begins x key ≡ same x (take n key)
 unfolding begins same
@@ -145,137 +136,115 @@ begins-longer x key l = go (begins x key) refl
     go false e = e
     go true e = let z = begins-length x key e in absurd (omega arith)
 
--- whether a note is on a key
-module _ (s : List ℕ) (v : ℕ) (key : List ℕ) where
-  module _ (c : v / 2048 % 2 ≡ 1) (fit : v / 4096 + v % 2048 ≤ length s) where
-    note-size : length (cut s (v / 4096) (v / 4096 + v % 2048)) ≡ v % 2048
-    note-size = let z = cut-length s (v / 4096) (v / 4096 + v % 2048) (omega arith) fit in omega arith
+-- the ways out of covers
+module _ (v : Note) (key : List ℕ) where
+  pub name-covers : (r : Bool) → v.clears ≡ false → r ≡ same v.path.now key → r ≡ note_covers v key
+  name-covers r c h = h ∙ sym (on-name v.clears v.path.now key c)
 
-    pub short-covers : length key < v % 2048 → false ≡ note_covers s v key
-    unfolding note_covers on
-    short-covers l = rw c (sym (begins-longer (cut s (v / 4096) (v / 4096 + v % 2048)) key (let z = note-size in omega arith)))
+  pub short-covers : v.clears ≡ true → length key < length v.path.now → false ≡ note_covers v key
+  short-covers c l = sym (on-clear v.clears v.path.now key c ∙ begins-longer v.path.now key l)
 
-    pub clear-covers : (r : Bool) → v % 2048 ≤ length key → r ≡ same (cut s (v / 4096) (v / 4096 + v % 2048)) (cut key 0 (v % 2048)) → r ≡ note_covers s v key
-    unfolding note_covers on
-    clear-covers r l h =
-        let z = note-size in
-        rw c (h ∙ sym (begins-same (cut s (v / 4096) (v / 4096 + v % 2048)) key (v % 2048 - 0) (omega arith) (omega arith)))
+  pub clear-covers : (r : Bool) → v.clears ≡ true → length v.path.now ≤ length key → r ≡ same v.path.now (take (length v.path.now) key) → r ≡ note_covers v key
+  clear-covers r c l h = h ∙ sym (begins-same v.path.now key (length v.path.now) refl l) ∙ sym (on-clear v.clears v.path.now key c)
 
-  pub name-covers : (r : Bool) → (v / 2048 % 2 ≡ 1 → ⊥) → r ≡ same (cut s (v / 4096) (v / 4096 + v % 2048)) key → r ≡ note_covers s v key
-  unfolding note_covers
-  name-covers r e h = h ∙ sym (unfold on in ap (λ x. on x (cut s (v / 4096) (v / 4096 + v % 2048)) key) (ne_eqb (v / 2048 % 2) 1 e))
+-- two notes of one kind on the same bytes
+pub like-told : (u v : Note) → u.clears ≡ v.clears → same u.path.now v.path.now ≡ true → (k : List ℕ) → note_covers u k ≡ note_covers v k
+like-told u v c e k = ap₂ (λ x y. on x y k) c (same-eq u.path.now v.path.now e)
 
--- the notes, from the last one up
-module _ (s notes key : List ℕ) where
-  quiet_step : (i : ℕ) → 0 < i → quiet s notes i key ≡ quiet s notes (i - 1) key && not (note_covers s (get_or notes (i - 1) 0) key)
-  unfolding quiet
-  quiet_step zero h = absurd (omega arith)
-  quiet_step (suc i) h = let e : suc i - 1 ≡ i = omega arith in rw e
+-- the ways out of stand_above
+module _ (y : List ℕ) (c : Bool) (lo : List ℕ) where
+  pub misses-by : (r : Bool) → (r ≡ true → before y lo ≡ true) → (r ≡ true → c ≡ true → begins y lo ≡ false) → Misses y c lo r
+  unfolding Misses
+  misses-by r b n = λ t k u. go c refl t k u
+    where
+      go : (d : Bool) → c ≡ d → r ≡ true → (k : List ℕ) → before k lo ≡ false → on c y k ≡ false
+      go true e t k u = on-clear c y k e ∙ low-begins y lo k (b t) (n t e) u
+      go false e t k u = on-name c y k e ∙ same_false y k (λ z. not_so {A = ⊥} (rw (← z) (b t)) u)
 
-  pub latest-one : (i : ℕ) (r answer : Bool) → 0 < i → answer ≡ quiet s notes i key → r ≡ note_covers s (get_or notes (i - 1) 0) key → r ≡ true → false ≡ answer
-  latest-one i r answer h inv e t =
-      sym (inv ∙ quiet_step i h ∙ ap (λ x. quiet s notes (i - 1) key && not x) (sym e ∙ t) ∙ and-false (quiet s notes (i - 1) key))
-
-  pub passed-one : (i : ℕ) (r answer : Bool) → 0 < i → answer ≡ quiet s notes i key → r ≡ note_covers s (get_or notes (i - 1) 0) key → r ≡ false → answer ≡ quiet s notes (i - 1) key
-  passed-one i r answer h inv e t =
-      inv ∙ quiet_step i h ∙ ap (λ x. quiet s notes (i - 1) key && not x) (sym e ∙ t) ∙ and-true (quiet s notes (i - 1) key)
-
-  pub passed-all : (i : ℕ) (answer : Bool) → i ≤ 0 → answer ≡ quiet s notes i key → true ≡ answer
-  unfolding quiet
-  passed-all zero answer h inv = sym inv
-  passed-all (suc i) answer h inv = absurd (omega arith)
-
--- what a message is to the keys of a leaf
 nil-begins : (q : List ℕ) → begins [] q ≡ true
 unfolding begins
 nil-begins q = refl
 
-clear-note : (s : List ℕ) (x n : ℕ) (k : List ℕ) → n ≤ 2047 → note_covers s (x * 4096 + 2048 + n) k ≡ begins (cut s x (x + n)) k
-unfolding note_covers on
-clear-note s x n k h =
-    let a : (x * 4096 + 2048 + n) / 4096 ≡ x = omega arith in
-    let b : (x * 4096 + 2048 + n) % 2048 ≡ n = omega arith in
-    let d : (x * 4096 + 2048 + n) / 2048 ≡ x * 2 + 1 = omega arith in
-    let f : (x * 2 + 1) % 2 ≡ 1 = omega arith in
-    let c : (x * 4096 + 2048 + n) / 2048 % 2 ≡ 1 = ap (λ z. z % 2) d ∙ f in
-    rw (c, a, b)
-
-name-note : (s : List ℕ) (x n : ℕ) (k : List ℕ) → n ≤ 2047 → note_covers s (x * 4096 + n) k ≡ same (cut s x (x + n)) k
-unfolding note_covers on
-name-note s x n k h =
-    let a : (x * 4096 + n) / 4096 ≡ x = omega arith in
-    let b : (x * 4096 + n) % 2048 ≡ n = omega arith in
-    let d : (x * 4096 + n) / 2048 ≡ x * 2 = omega arith in
-    let f : x * 2 % 2 ≡ 0 = omega arith in
-    let c : (x * 4096 + n) / 2048 % 2 ≡ 0 = ap (λ z. z % 2) d ∙ f in
-    rw (c, a, b)
-
-module _ (s : List ℕ) (a b : ℕ) (c : Bool) (w lo hi : List ℕ) (h : a ≤ b) (l : b ≤ length s) where
-  pub no_note : Concerns s c (cut s a b) w lo hi Concern.Full
-  unfolding Concerns
-  no_note = tt
-
-  module _ (k : ℕ) (e : k ≡ length (shared (cut s a b) w)) (sz : b - a ≤ 2047) where
-    size : length (cut s a b) ≡ b - a
-    size = cut-length s a b h l
-
-    pub far : k < length w → k < b - a → Concerns s c (cut s a b) w lo hi Concern.Nothing
-    unfolding Concerns
-    far m n = λ q o. off c (cut s a b) (w ++ q) (differ-begins (cut s a b) w q (let z = size in omega arith) (omega arith))
-
-    pub all-cleared : k < length w → b - a ≤ k → c ≡ true → Concerns s c (cut s a b) w lo hi (Concern.Note (b * 4096 + 2048))
-    unfolding Concerns
-    all-cleared m n t =
-        let i : (b * 4096 + 2048) / 4096 + (b * 4096 + 2048) % 2048 ≤ length s = omega arith in
-        (i, λ q o. told q)
+-- the ways out of narrow
+module _ (n : Note) (w : Keys) (k : ℕ) (e : k ≡ length (shared n.path.now w.after.now)) where
+  module _ (m : k < length w.after.now) where
+    pub all-cleared : (x : List ℕ) → x ≡ drop k n.path.now → n.clears ≡ true → length x ≡ 0 → k ≤ length n.path.now
+        → (q : List ℕ) → owns w.low.now w.high.now q ≡ true → note_covers n (w.after.now ++ q) ≡ on n.clears x q
+    all-cleared x p t z b = λ q o.
+        let l : length (drop k n.path.now) ≡ 0 = sym (ap length p) ∙ z in
+        let s = length-drop k n.path.now in
+        on-clear n.clears n.path.now (w.after.now ++ q) t ∙ shared-whole n.path.now w.after.now q (omega arith)
+        ∙ sym (on-clear n.clears x q t ∙ ap (λ y. begins y q) (none-left x z) ∙ nil-begins q)
       where
-        told : (q : List ℕ) → on c (cut s a b) (w ++ q) ≡ note_covers s (b * 4096 + 2048) q
-        told q =
-            let z : b * 4096 + 2048 + 0 ≡ b * 4096 + 2048 = omega arith in
-            let y : cut s b (b + 0) ≡ [] = cut-nil s b (b + 0) (omega arith) in
-            let u : begins (cut s b (b + 0)) q ≡ true = ap (λ x. begins x q) y ∙ nil-begins q in
-            let v : begins (cut s a b) (w ++ q) ≡ true = shared-whole (cut s a b) w q (let g = size in omega arith) in
-            on-clear c (cut s a b) (w ++ q) t ∙ v ∙ sym u ∙ sym (clear-note s b 0 q (omega arith)) ∙ ap (λ x. note_covers s x q) z
+        none-left : (x : List ℕ) → length x ≡ 0 → x ≡ []
+        none-left [] h = refl
+        none-left (a ∷ x) h = absurd (omega arith)
 
-    pub too_short : k < length w → b - a ≤ k → c ≡ false → Concerns s c (cut s a b) w lo hi Concern.Nothing
-    unfolding Concerns
-    too_short m n t = λ q o. on-name c (cut s a b) (w ++ q) t ∙ shorter-same (cut s a b) w q (let g = size in omega arith)
+    pub apart : (n.clears ≡ true → k < length n.path.now) → Unconcerned n w
+    apart h = λ q o. go n.clears refl q
+      where
+        go : (d : Bool) → n.clears ≡ d → (q : List ℕ) → note_covers n (w.after.now ++ q) ≡ false
+        go true c q = off n.clears n.path.now (w.after.now ++ q) (differ-begins n.path.now w.after.now q (let g = h c in omega arith) (omega arith))
+        go false c q = on-name n.clears n.path.now (w.after.now ++ q) c ∙ other q
+          where
+            other : (q : List ℕ) → same n.path.now (w.after.now ++ q) ≡ false
+            other q = differs (leb (length n.path.now) k) refl
+              where
+                differs : (x : Bool) → leb (length n.path.now) k ≡ x → same n.path.now (w.after.now ++ q) ≡ false
+                differs true f = let l = leb-true (length n.path.now) k f in shorter-same n.path.now w.after.now q (omega arith)
+                differs false f =
+                    let l = leb-false (length n.path.now) k f in
+                    begins-of-same n.path.now (w.after.now ++ q) (differ-begins n.path.now w.after.now q (omega arith) (omega arith))
 
-    module _ (m : length w ≤ k) (kb : k ≤ b - a) where
-      rest : (q : List ℕ) → on c (cut s a b) (w ++ q) ≡ on c (cut s (a + k) b) q
-      rest q =
-          let f : length w ≤ length (shared (cut s a b) w) = omega arith in
-          let g : length (shared (cut s a b) w) ≤ length w = begins-length (shared (cut s a b) w) w (shared-right (cut s a b) w) in
-          let n : length w ≡ k = omega arith in
-          let x : cut s a b ≡ w ++ cut s (a + k) b = past-whole (cut s a b) w f ∙ ap (λ z. w ++ z) (ap (λ z. drop z (cut s a b)) n ∙ cut-drop s a b k (omega arith)) in
-          ap (λ z. on c z (w ++ q)) x ∙ on-append c w (cut s (a + k) b) q
+  module _ (m : length w.after.now ≤ k) (b : k ≤ length n.path.now) where
+    rest : (q : List ℕ) → note_covers n (w.after.now ++ q) ≡ on n.clears (drop k n.path.now) q
+    rest q =
+        let g : length (shared n.path.now w.after.now) ≤ length w.after.now = begins-length (shared n.path.now w.after.now) w.after.now (shared-right n.path.now w.after.now) in
+        let z : length w.after.now ≡ k = omega arith in
+        let x : n.path.now ≡ w.after.now ++ drop k n.path.now = past-whole n.path.now w.after.now (omega arith) ∙ ap (λ i. w.after.now ++ drop i n.path.now) z in
+        ap (λ y. on n.clears y (w.after.now ++ q)) x ∙ on-append n.clears w.after.now (drop k n.path.now) q
 
-      pub high-off : (p : Bool) → p ≡ before (cut s (a + k) b) hi → not p ≡ true → Concerns s c (cut s a b) w lo hi Concern.Nothing
-      unfolding Concerns
-      high-off p f t = λ q o. rest q ∙ too-high c (cut s (a + k) b) lo hi q (sym f ∙ not-true p t) o
+    pub high-off : before (drop k n.path.now) w.high.now ≡ false → Unconcerned n w
+    high-off h = λ q o. rest q ∙ too-high n.clears (drop k n.path.now) w.low.now w.high.now q h o
 
-      pub low-off : (p : Bool) → Misses (cut s (a + k) b) c lo p → p ≡ true → Concerns s c (cut s a b) w lo hi Concern.Nothing
-      unfolding Concerns Misses
-      low-off p f t = λ q o. rest q ∙ f t q (not_low lo hi q o)
+    pub low-off : (r : Bool) → Misses (drop k n.path.now) n.clears w.low.now r → r ≡ true → Unconcerned n w
+    unfolding Misses
+    low-off r f t = λ q o. rest q ∙ f t q (not_low w.low.now w.high.now q o)
 
-      pub cleared : c ≡ true → Concerns s c (cut s a b) w lo hi (Concern.Note ((a + k) * 4096 + 2048 + (b - (a + k))))
-      unfolding Concerns
-      cleared t =
-          let i : ((a + k) * 4096 + 2048 + (b - (a + k))) / 4096 + ((a + k) * 4096 + 2048 + (b - (a + k))) % 2048 ≤ length s = omega arith in
-          (i, λ q o. rest q ∙ told q)
-        where
-          told : (q : List ℕ) → on c (cut s (a + k) b) q ≡ note_covers s ((a + k) * 4096 + 2048 + (b - (a + k))) q
-          told q =
-              let z : a + k + (b - (a + k)) ≡ b = omega arith in
-              on-clear c (cut s (a + k) b) q t ∙ ap (λ x. begins (cut s (a + k) x) q) (sym z) ∙ sym (clear-note s (a + k) (b - (a + k)) q (omega arith))
+    pub told : (x : List ℕ) → x ≡ drop k n.path.now → (q : List ℕ) → owns w.low.now w.high.now q ≡ true → note_covers n (w.after.now ++ q) ≡ on n.clears x q
+    told x p = λ q o. rest q ∙ ap (λ y. on n.clears y q) (sym p)
 
-      pub named : c ≡ false → Concerns s c (cut s a b) w lo hi (Concern.Note ((a + k) * 4096 + (b - (a + k))))
-      unfolding Concerns
-      named t =
-          let i : ((a + k) * 4096 + (b - (a + k))) / 4096 + ((a + k) * 4096 + (b - (a + k))) % 2048 ≤ length s = omega arith in
-          (i, λ q o. rest q ∙ told q)
-        where
-          told : (q : List ℕ) → on c (cut s (a + k) b) q ≡ note_covers s ((a + k) * 4096 + (b - (a + k))) q
-          told q =
-              let z : a + k + (b - (a + k)) ≡ b = omega arith in
-              on-name c (cut s (a + k) b) q t ∙ ap (λ x. same (cut s (a + k) x) q) (sym z) ∙ sym (name-note s (a + k) (b - (a + k)) q (omega arith))
+-- the note of an entry
+said-or-not : (b : Bool) (x : Option (List ℕ)) → covers (cond b (says x) nothing) ≡ b
+unfolding covers
+said-or-not true x = refl
+said-or-not false x = refl
+
+pub unnoted : (e : Entry) → ((m : Message) → e ≡ Entry.Message m → ⊥) → Uncovered (entry_is e)
+unfolding entry_says covers
+unnoted (Entry.Pair k v) h = λ r. refl
+unnoted (Entry.Child i k) h = λ r. refl
+unnoted (Entry.Message m) h = absurd (h m refl)
+
+module _ (e : Entry) (m : Message) (q : e ≡ Entry.Message m) where
+  pub put-noted : (k v : Bor (List ℕ)) (n : Note) → m ≡ Message.Put k v → n ≡ record { clears = false; path = k } → Same (entry_is e) n
+  unfolding on entry_says says_of
+  put-noted k v n f g = λ r. rw (q, f, g) (ap not (said-or-not (same k.now r) (some v.now)))
+
+  pub drop-noted : (k : Bor (List ℕ)) (n : Note) → m ≡ Message.Drop k → n ≡ record { clears = false; path = k } → Same (entry_is e) n
+  unfolding on entry_says says_of
+  drop-noted k n f g = λ r. rw (q, f, g) (ap not (said-or-not (same k.now r) none))
+
+  pub clear-noted : (k : Bor (List ℕ)) (n : Note) → m ≡ Message.Clear k → n ≡ record { clears = true; path = k } → Same (entry_is e) n
+  unfolding on entry_says says_of
+  clear-noted k n f g = λ r. rw (q, f, g) (ap not (said-or-not (begins k.now r) none))
+
+-- what is written behind the first n
+pub take-pushed : {X : Type 0} (xs : List X) (n : ℕ) (x : X) → n < length xs → take (n + 1) (set xs n x) ≡ take n xs ++ x ∷ []
+take-pushed xs n x h = ap (λ i. take i (set xs n x)) (add-one n) ∙ take-suc-set xs n x h
+
+pub beq-true : (a b : Bool) → beq a b ≡ true → a ≡ b
+beq-true true true e = refl
+beq-true true false e = absurd (false≢true e)
+beq-true false true e = absurd (false≢true e)
+beq-true false false e = refl

@@ -1,7 +1,8 @@
 -- The steps of the questions as code.
--- Relies on successor/specs/BufferSteps (what next hands back) and on Below, Judge and Shorter.
+-- Relies on Below, Judge and Shorter.
 use Rattle.std.specs.Prelude.{ℕ, ◌<◌, ◌≤◌, ◌≡◌, refl, List, [], Bool, true, false, not, length, drop, leb, ltb}
-use Rattle.image.specs.Prelude.{sym, ap, ap₂, ◌∙◌, le-leb, lt-leb, le-ltb, lt-ltb, leb-true, leb-false, cases}
+use Rattle.std.specs.Prelude as found
+use Rattle.image.specs.Prelude.{sym, ap, ap₂, ◌∙◌, le-leb, lt-leb}
 use Rattle.image.specs.Bytes.{same, begins}
 use Rattle.image.specs.Path.{well_formed, proper_beginning, may_move}
 use Rattle.image.specs.Table.{Row, rows_below, least_after, moved, every_key, rising}
@@ -11,12 +12,10 @@ use Rattle.laws.specs.Filter.{keep, keep-passes, keep-rises}
 use Rattle.laws.specs.Follow.{table-rises}
 use Rattle.path.specs.Shape as defined
 use Rattle.path.specs.Fed.{Shape, shape_is}
-use Rattle.node.specs.declared.PathBuffer.{PathBuffer}
-use Rattle.successor.specs.Buffer.{buffer_is}
+use Rattle.node.specs.Fitted.{buffer_is}
 use Rattle.laws.specs.Formed.{table-formed}
 use Rattle.rename.specs.Asks.Judge.{rest_fits, rests_fit, nine-is}
 use Rattle.rename.specs.Asks.Shorter.{no_wider, quick-yes}
-use Rattle.successor.specs.BufferSteps.{held, empty-handed}
 use Rattle.successor.specs.Walk.{unfit}
 use Rattle.rename.specs.Asks.Below.{none_below, some_below, none-fails}
 
@@ -38,32 +37,28 @@ unfolding may_move
 second-says from to x y e f g = rw (sym e ∙ f) (ap not g)
 
 -- QUESTION 8: a path is handed back where a row is below p
-handed-back : (p : List ℕ) (t : List Row) (b : PathBuffer) → every_key well_formed t ≡ true → rising t ≡ true → buffer_is b ≡ least_after p [] t
-    → leb b.len 64 ≡ not (is_empty (rows_below p t))
-handed-back p t b e f h =
-    cases (leb b.len 64) (λ q. q ∙ ap not (sym (some_below p _ t e f (sym h ∙ held b (leb-true b.len 64 q)))))
-    (λ q. q ∙ ap not (sym (none_below p t e f (sym h ∙ empty-handed b (leb-false b.len 64 q)))))
+handed-back : (p : List ℕ) (t : List Row) (o : found.Option (List ℕ)) → every_key well_formed t ≡ true → rising t ≡ true → buffer_is o ≡ least_after p [] t
+    → found.is_some o ≡ not (is_empty (rows_below p t))
+handed-back p t found.None e f h = ap not (sym (none_below p t e f (sym h)))
+handed-back p t (found.Some b) e f h = ap not (sym (some_below p b t e f (sym h)))
 
-pub eight_is : (s from : List ℕ) (p : PathBuffer) → sound s ≡ true → buffer_is p ≡ least_after from [] (table_of s)
-    → leb p.len 64 ≡ not (is_empty (rows_below from (table_of s)))
-eight_is s from p ok e = handed-back from (table_of s) p (table-formed s ok) (table-rises s ok) e
+pub eight_is : (s from : List ℕ) (o : found.Option (List ℕ)) → sound s ≡ true → buffer_is o ≡ least_after from [] (table_of s)
+    → found.is_some o ≡ not (is_empty (rows_below from (table_of s)))
+eight_is s from o ok e = handed-back from (table_of s) o (table-formed s ok) (table-rises s ok) e
 
 -- QUESTION 9
 -- no path is handed back of those whose rests do not go on
-pub rests-are : (s from : List ℕ) (sh : Shape) (p : PathBuffer) → sound s ≡ true → buffer_is p ≡ least_after from [] (keep (unfit (shape_is sh) from) (table_of s))
-    → ltb 64 p.len ≡ rests_fit (shape_is sh) from (table_of s)
+pub rests-are : (s from : List ℕ) (sh : Shape) (o : found.Option (List ℕ)) → sound s ≡ true → buffer_is o ≡ least_after from [] (keep (unfit (shape_is sh) from) (table_of s))
+    → (r : Bool) → found.is_some o ≡ not r → r ≡ rests_fit (shape_is sh) from (table_of s)
 unfolding rests_fit rest_fits unfit
-rests-are s from sh p ok e =
-    over p.len
+rests-are s from sh o ok e r h =
+    sym (ap not h ∙ twice r)
     ∙ ap not
-    (handed-back from (keep (λ k. not (defined.goes_on (shape_is sh) (drop (length from) k))) (table_of s)) p
+    (handed-back from (keep (λ k. not (defined.goes_on (shape_is sh) (drop (length from) k))) (table_of s)) o
     (keep-passes well_formed _ well_formed (table_of s) (λ q a b. a) (table-formed s ok)) (keep-rises _ (table_of s) (table-rises s ok)) e)
     ∙ twice (is_empty (rows_below from (keep (λ k. not (defined.goes_on (shape_is sh) (drop (length from) k))) (table_of s))))
     ∙ none-fails (λ k. defined.goes_on (shape_is sh) (drop (length from) k)) from (table_of s)
   where
-    over : (n : ℕ) → ltb 64 n ≡ not (leb n 64)
-    over n = cases (leb n 64) (λ q. rw q (le-ltb 64 n (leb-true n 64 q))) (λ q. rw q (lt-ltb 64 n (leb-false n 64 q)))
-
     twice : (x : Bool) → not (not x) ≡ x
     twice true = refl
     twice false = refl

@@ -1,20 +1,20 @@
--- `none_covers` meets its contract: past the entries one by one, up to the first that covers the rest. Relies on specs/NotedSteps.
-use Rattle.node.specs.Entries.{listed-end}
-use Rattle.live_count.specs.NotedSteps.{uncovered-all, uncovered-end}
-use Rattle.image.specs.Prelude.{sym, ◌∙◌, arith}
+-- `none_covers` meets its contract: the entries one by one, up to the first that covers the rest. Relies on specs/Notes/Steps.
+use Rattle.image.specs.Prelude.{sym, ◌∙◌}
+use Rattle.node.specs.Lent.{left_of}
+use Rattle.live_count.specs.Notes.Steps.{uncovered-all, uncovered-end, uncovered-stop, uncovered-on, uncovered-past}
 use Rattle.live_count.proofs.visibility.none_covers.Goals as goal
 
-pub loop-at-init : goal.loop-at-init
-loop-at-init c = sym (uncovered-all _ _)
+pub loop-entry-init : goal.loop-entry-init
+loop-entry-init c = rw c.into_iter-entry-iterator.ensures.into_iter_gives (sym (uncovered-all (left_of c.args.entries) c.args.rest.now))
 
-pub returns-then-at-eq0 : goal.returns-then-at-eq0
-returns-then-at-eq0 c = sym (c.pass_entry-at.ensures.off c.if-at-eq0.true) ∙ c.loop-at.invariant
+pub returns-then-covers : goal.returns-then-covers
+returns-then-covers c = uncovered-stop _ _ _ c.loop-entry.invariant _ _ c.in-Some.ensures.steps c.in-Some-of.note c.in-Some-of.ensures (sym c.covers.ensures ∙ c.if-covers.true)
 
-pub loop-at-smaller : goal.loop-at-smaller
-loop-at-smaller c = let p = c.pass_entry-at.ensures.on c.if-at-eq0.false in omega (arith, p.moves)
+pub loop-entry-preserved-else-covers : goal.loop-entry-preserved-else-covers
+loop-entry-preserved-else-covers c = uncovered-on _ _ _ c.loop-entry.invariant _ _ c.in-Some.ensures.steps c.in-Some-of.note c.in-Some-of.ensures (sym c.covers.ensures ∙ c.if-covers.false)
 
-pub loop-at-preserved : goal.loop-at-preserved
-loop-at-preserved c = sym (c.pass_entry-at.ensures.on c.if-at-eq0.false).same_silence ∙ c.loop-at.invariant
+pub loop-entry-preserved : goal.loop-entry-preserved
+loop-entry-preserved c = uncovered-past _ _ _ c.loop-entry.invariant _ _ c.in-Some.ensures.steps c.in_default.ensures
 
 pub returns : goal.returns
-returns c = uncovered-end _ _ _ c.loop-at.invariant (listed-end _ _ _ (omega arith))
+returns c = uncovered-end _ _ _ c.loop-entry.invariant c.in-None.ensures.steps.0

@@ -1,19 +1,17 @@
--- `find_high` meets its contract: the search from the root, where nothing is lifted.
--- Relies on specs/High/Steps and on the bytes of node 0 (lookup: Root).
-use Rattle.std.specs.Prelude.{refl}
+-- `find_high` meets its contract: the search from the root. Relies on specs/High/Steps and on lookup's Root.
 use Rattle.image.specs.Prelude.{arith}
-use Rattle.push.specs.High.Steps.{root-seen}
 use Rattle.lookup.specs.Root.{long-enough, root-usable}
+use Rattle.push.specs.High.Steps.{root-seen}
 use Rattle.push.proofs.high.find_high.Goals as goal
 
-pub read_root-root-requires : goal.read_root-root-requires
-read_root-root-requires c = let l = long-enough c.args.store.now c.requires in omega arith
+pub read_root-requires : goal.read_root-requires
+read_root-requires c = let l = long-enough _ c.requires in omega arith
 
-pub read_levels-levels-requires : goal.read_levels-levels-requires
-read_levels-levels-requires c = let l = long-enough c.args.store.now c.requires in omega arith
+pub read_levels-requires : goal.read_levels-requires
+read_levels-requires c = let l = long-enough _ c.requires in omega arith
 
 pub search_node-requires : goal.search_node-requires
-search_node-requires c = root-usable c.args.store.now _ _ c.requires c.read_root-root.ensures.0 c.read_levels-levels.ensures.0
+search_node-requires c = root-usable _ _ _ c.requires c.read_root.ensures.0 c.read_levels.ensures.0
 
 pub returns : goal.returns
-returns c = root-seen c.args.num c.args.store.now _ _ _ _ _ c.requires c.read_root-root.ensures.0 c.read_levels-levels.ensures.0 refl c.search_node.ensures
+returns c = root-seen _ _ _ _ _ c.requires c.read_root.ensures.0 c.read_levels.ensures.0 c.search_node.ensures

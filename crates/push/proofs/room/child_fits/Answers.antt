@@ -1,13 +1,12 @@
--- `child_fits` meets its contract: the child is a node of the store, and the sum fits.
--- Relies on specs/ReadSteps.
+-- `child_fits` meets its contract: the child is a node of the store, and the sum fits. Relies on specs/ReadSteps.
 use Rattle.image.specs.Prelude.{arith}
 use Rattle.image.specs.Image.{nodes_of}
 use Rattle.push.specs.ReadSteps.{room-no, room-is}
 use Rattle.push.proofs.room.child_fits.Goals as goal
 
-pub returns-then-store-num : goal.returns-then-store-num
+pub returns-then-store-child : goal.returns-then-store-child
 unfolding nodes_of
-returns-then-store-num c = room-no _ _ _ _ _ (omega arith)
+returns-then-store-child c = room-no _ _ _ _ _ (omega arith)
 
 pub returns : goal.returns
 unfolding nodes_of

@@ -1,6 +1,7 @@
 -- The steps of ask: one law for each way out of the code.
 -- Relies on questions' Callers for the number of each refusal, and on what soundness promises.
-use Rattle.std.specs.Prelude.{ℕ, ◌*◌, ◌/◌, ◌<◌, ◌≤◌, ◌≡◌, List, Bool, true, false, length, Ok, Err, None, Some}
+use Rattle.std.specs.Prelude.{ℕ, ◌*◌, ◌/◌, ◌<◌, ◌≤◌, ◌≡◌, refl, List, Bool, true, false, length, Result, Ok, Err, None, Some}
+use Rattle.std.proofs.Common.{ok_or}
 use Rattle.image.specs.Prelude.{sym, ◌∙◌}
 use Rattle.image.specs.Image.{nodes_of, whole_nodes}
 use Rattle.image.specs.declared.Refusal.{Refusal}
@@ -27,3 +28,11 @@ module _ (s w seen : List ℕ) where
     pub sound-store : (t : Tally) → v ≡ Some t → Asked s w seen (Ok t)
     unfolding Asked nodes_of
     sound-store t e = record { whole = sym x-is ∙ x-yes; long = long; is_sound = sym (verdict-yes s seen v t j e); holds = j.holds t e }
+
+    -- the verdict handed on, a no as the refusal
+    pub judged-store : (r : Result Tally Refusal) → r ≡ ok_or v Refusal.Unsound → Asked s w seen r
+    judged-store r e = go v refl
+      where
+        go : (u : Checked) → v ≡ u → Asked s w seen r
+        go None f = rw (e, f) (unsound-store f)
+        go (Some t) f = rw (e, f) (sound-store t f)

@@ -2,7 +2,7 @@
 -- Relies on Laws/Arriving and on what node's readers lend.
 use Rattle.std.specs.Prelude.{ℕ, ◌+◌, ◌-◌, ◌*◌, ◌<◌, ◌≤◌, ◌≡◌, refl, List, [], ◌∷◌, Bool, true, false, ◌||◌, ◌&&◌, cond, length, take, drop, leb}
 use Rattle.std.specs.Borrow.{Bor}
-use Rattle.image.specs.Prelude.{sym, ap, ◌∙◌, arith, length-append, length-drop, length-take, drop_of_length-le, lt-leb, le-ltb, lt-ltb}
+use Rattle.image.specs.Prelude.{sym, ap, ◌∙◌, arith, length-append, length-drop, length-take, drop_of_length-le, le-ltb, lt-ltb}
 use Rattle.image.specs.Bytes.{u16, begins, shared}
 use Rattle.image.specs.Entry as defined
 use Rattle.image.specs.Image.{Branch, nodes_of}
@@ -94,9 +94,6 @@ module _ (es ts : List defined.Entry) (e : defined.Entry) (q : es ≡ e ∷ ts) 
 
 -- THE SUM OF WHAT ALL ENTRIES BRING
 module _ (lo hi : List ℕ) (es : List defined.Entry) (sum : ℕ) (answer : Bool) (inv : leb (sum + length (brought_all es lo hi)) 1016 ≡ answer) where
-  pub fit-over : 1016 < sum → false ≡ answer
-  fit-over h = sym (lt-leb (sum + length (brought_all es lo hi)) 1016 (omega arith)) ∙ inv
-
   pub fit-end : es ≡ [] → leb sum 1016 ≡ answer
   unfolding brought_all
   fit-end e =

@@ -1,5 +1,5 @@
 // What one node says of a path: its newest message on it, the pair of a leaf, the child that owns it; its children one by one; and whether it holds
-// messages, and how many. Relies on the cursor and on octets; specs/Search joins each reader to the definitions.
+// messages, and how many. Relies on entries, branches and octets, and what still answers places on the cursor; specs/Search joins each to its definition.
 ghost use Rattle.std.specs.Prelude.{◌≡◌, ◌≤◌, length};
 ghost use Rattle.node.specs.Places.{EntryWithin, MessageWithin, entry_in, message_in};
 ghost use Rattle.image.specs.Meaning.{says_of};

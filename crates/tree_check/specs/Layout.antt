@@ -1,13 +1,13 @@
 -- The layout of a node and of node 0, read at its place in the store.
 -- Relies on image's layout (Image) and on lookup's laws of a node's bytes.
-use Rattle.std.specs.Prelude.{ℕ, suc, ◌+◌, ◌-◌, ◌*◌, ◌/◌, ◌<◌, ◌≤◌, ◌≡◌, refl, List, ◌∷◌, Bool, true, false, ◌&&◌, length, take, drop, get_or, leb, eqb, max}
-use Rattle.image.specs.Prelude.{sym, ap, ap₂, ◌∙◌, and-true, none, some, arith, drop-cons, le-leb, lt-leb, eq-eqb, ne_eqb, eqb-true, eqb-false, add-one}
+use Rattle.std.specs.Prelude.{ℕ, suc, ◌+◌, ◌*◌, ◌/◌, ◌<◌, ◌≤◌, ◌≡◌, refl, List, ◌∷◌, Bool, true, false, ◌&&◌, length, drop, get_or, leb, eqb, max}
+use Rattle.image.specs.Prelude.{sym, ap, ap₂, ◌∙◌, and-true, none, arith, drop-cons, le-leb, lt-leb, eq-eqb, ne_eqb, eqb-true, eqb-false, add-one}
 use Rattle.std.proofs.lemmas.List.{drop_all}
 use Rattle.image.specs.Bytes.{u16, zeros}
 use Rattle.image.specs.Entry as defined
 use Rattle.image.specs.Image.{node_bytes, nodes_of, laid_out, node_entries}
-use Rattle.octets.specs.Order.{and-false, and_assoc}
-use Rattle.node.specs.Cut.{cut, cut-drop, cut-u16, cut-nil}
+use Rattle.octets.specs.Order.{and_assoc}
+use Rattle.node.specs.Cut.{cut, cut-drop, cut-u16}
 use Rattle.node.specs.Whole.{HasEntries}
 use Rattle.lookup.specs.Look.{node-is, count-is, bytes-is, laid-short as look-short}
 

@@ -82,6 +82,7 @@ impl<'b> Keys<'b> {
     }
 
     // What a note says of the keys; none where it is on none of them.
+    #[inline(always)]
     pub fn narrow<'a>(&self, note: Note<'a>) -> Option<Note<'a>>
         ensures { MatchOption result (Unconcerned note.entry self.now) (λ v. Concerns note.entry self.now v) }
     {
@@ -151,6 +152,7 @@ impl<'a> Notes<'a> {
     }
 
     // A note behind the others. One that says what the last one does is not kept: a path that is put again and again needs one note.
+    #[inline(always)]
     fn push(&mut self, note: Note<'a>)
         ensures { (lo hi : List ℕ) → Gathered lo hi (λ k. not (note_covers note.entry k)) self.old self.new }
     {
@@ -172,6 +174,7 @@ impl<'a> Notes<'a> {
     }
 
     // What a note says of the keys, behind the others.
+    #[inline(always)]
     fn add(&mut self, note: Note<'a>, keys: &Keys)
         ensures { Gathered keys.now.low.now keys.now.high.now (λ k. not (note_covers note.entry (keys.now.after.now ++ k))) self.old self.new }
     {

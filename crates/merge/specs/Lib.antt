@@ -1,5 +1,5 @@
 pub mod Laws
-pub mod Least
+pub mod Light
 pub mod Room
 pub mod WeighSteps
 pub mod EmitSteps

@@ -1,95 +1,88 @@
 // How many bytes the entries of two neighbours take in one node. Only reads.
 // Relies on the readers of nodes (node) and on octets; Laws/Joined says what an entry weighs.
-ghost use Rattle.std.specs.Prelude.{◌≡◌, ◌+◌, ◌<◌, ◌≤◌, length};
-ghost use Rattle.node.specs.Places.{EntryWithin, entry_in};
-ghost use Rattle.node.specs.Entries.{listed};
-ghost use Rattle.merge.specs.Laws.Joined.{weight, weights, node_weight, pair_fits};
-ghost use Rattle.merge.specs.Least.{least};
+ghost use Rattle.std.specs.Prelude.{◌≡◌, ◌≤◌, length};
+ghost use Rattle.laws.specs.Encode.{bytes_of, bytes_of_all};
+ghost use Rattle.node.specs.Lent.{entry_is, left_of};
+ghost use Rattle.merge.specs.Laws.Joined.{weight, weights, node_weight, left_more, right_more, pair_fits};
+ghost use Rattle.merge.specs.Light.{Weighs, Light};
 
-use node::{Cursor, Entry, Step};
+use node::branches::Branch;
+use node::entries::{Entries, Entry};
 
-// The lesser of two numbers.
-pub fn lesser(a: usize, b: usize) -> usize
-    ensures { (result ≡ least a b) × (result ≤ a) × (result ≤ b) }
+// What the left one of two neighbours lifts and both as one do not: its suffixes have it in front then.
+pub fn left_more<'a>(left: Branch<'a>, right: Branch) -> &'a [u8]
+    ensures { result.now ≡ left_more left.entry.low.now left.entry.high.now right.entry.high.now }
 {
-    if a < b {
-        return a;
-    }
-    b
+    let lifted = &left.low[..octets::common_length(left.low, left.high)];
+    push::room::past(lifted, octets::common_length(left.low, right.high))
 }
 
-// How many bytes an entry takes whose suffix grows by k.
-fn weigh_entry(s: &[u8], e: Entry, k: usize) -> usize
-    requires { EntryWithin 0 (length s.now) e × (length s.now ≤ 2000000) × (k ≤ 2000000) }
-    ensures { (result ≡ weight k (entry_in s.now e)) × (result ≤ 10000000) }
+// The same of the right one.
+pub fn right_more<'a>(left: Branch<'a>, right: Branch) -> &'a [u8]
+    ensures { result.now ≡ right_more left.entry.low.now left.entry.high.now right.entry.high.now }
 {
-    match e {
-        Entry::Pair(p, v) => 6 + (k + (p.stop - p.start)) + (v.stop - v.start),
-        Entry::Child(i, p) => {
-            let n = k + (p.stop - p.start);
-            if image::PIVOT_LIMIT < n {
-                return 1017;
+    let lifted = &left.high[..octets::common_length(left.high, right.high)];
+    push::room::past(lifted, octets::common_length(left.low, right.high))
+}
+
+// How many bytes an entry takes whose suffix grows by so many; none of one that no joined node may hold.
+fn weigh_entry(entry: Entry, more: usize) -> Option<usize>
+    requires { (length (bytes_of (entry_is entry)) ≤ 1016) × (more ≤ 2000000) }
+    ensures { Weighs (weight more (entry_is entry.entry)) result }
+{
+    match entry {
+        Entry::Pair(key, value) => Some(6 + (more + key.len()) + value.len()),
+        Entry::Child(number, pivot) => {
+            let len = more + pivot.len();
+            if image::PIVOT_LIMIT < len {
+                return None;
             }
-            if 65535 < i {
-                return 1017;
+            if 65535 < number {
+                return None;
             }
-            6 + n
+            Some(6 + len)
         }
-        Entry::Message(_) => 1017,
+        Entry::Message(_) => None,
     }
 }
 
-// The same for the entries from a place up to another, behind so many bytes.
-fn weigh_entries(s: &[u8], from: usize, stop: usize, k: usize, used: usize) -> usize
-    requires { (stop ≤ length s.now) × (length s.now ≤ 2000000) × (k ≤ 2000000) × (used ≤ 20000000) }
-    ensures { (result ≡ weights k (listed s.now from stop) used) × (result ≤ 20000000) }
+// The same of entries behind so many bytes, if all that is no more than a node holds.
+fn weigh_entries(entries: Entries, more: usize, used: usize) -> Option<usize>
+    requires { (length (bytes_of_all (left_of entries)) ≤ 1016) × (more ≤ 2000000) × (used ≤ 1016) }
+    ensures { Light (weights more (left_of entries.entry) used) result }
 {
-    let mut c = Cursor {
-        at: from,
-        end: stop,
-    };
     let mut sum = used;
-    while c.at < stop {
+    for entry in entries {
+        sum += weigh_entry(entry, more)?;
         if image::ENTRIES_LIMIT < sum {
-            return sum;
+            return None;
         }
-        let Step::Read(e, next) = c.step(s) else {
-            return sum;
-        };
-        sum = sum + weigh_entry(s, e, k);
-        c = next;
     }
-    sum
+    Some(sum)
 }
 
-// The same for the entries of a node of the store.
-fn weigh_node(store: &[u8], num: usize, k: usize, used: usize) -> usize
-    requires { (length store.now ≤ 2000000) × (k ≤ 2000000) × (used ≤ 20000000) }
-    ensures { (result ≡ node_weight k store.now num used) × (result ≤ 20000000) }
+// The same of the entries of a node of the store.
+fn weigh_node(store: &[u8], num: usize, more: usize, used: usize) -> Option<usize>
+    requires { (more ≤ 2000000) × (used ≤ 1016) }
+    ensures { Light (node_weight more store.now num used) result }
 {
     if store.len() / image::NODE_SIZE <= num {
-        return 1017;
+        return None;
     }
-    let at = num * image::NODE_SIZE;
-    let len = node::header::read_length(store, at);
-    if image::ENTRIES_LIMIT < len {
-        return 1017;
+    if image::ENTRIES_LIMIT < node::header::read_length(store, num * image::NODE_SIZE) {
+        return None;
     }
-    let from = at + image::ENTRIES_AT;
-    weigh_entries(store, from, from + len, k, used)
+    weigh_entries(Entries::of_node(store, num), more, used)
 }
 
-// Whether one node holds the entries of two neighbours with the pivots lo, mid, hi.
-pub fn pair_fits(store: &[u8], left: usize, right: usize, lo: &[u8], mid: &[u8], hi: &[u8]) -> bool
-    requires { (length store.now ≤ 2000000) × (length lo.now ≤ 2000000) × (length mid.now ≤ 2000000) }
-    ensures { result ≡ pair_fits store.now left right lo.now mid.now hi.now }
+// Whether one node holds the entries of two neighbours.
+pub fn pair_fits(store: &[u8], left: Branch, right: Branch) -> bool
+    requires { (length left.low.now ≤ 2000000) × (length left.high.now ≤ 2000000) }
+    ensures { result ≡ pair_fits store.now left.entry.number right.entry.number left.entry.low.now left.entry.high.now right.entry.high.now }
 {
-    let shared = octets::common_length(lo, hi);
-    let own = octets::common_length(lo, mid);
-    let other = octets::common_length(mid, hi);
-    let x = own - lesser(shared, own);
-    let y = other - lesser(shared, other);
-    let one = weigh_node(store, left, x, 0);
-    let both = weigh_node(store, right, y, one);
-    both <= image::ENTRIES_LIMIT
+    let Some(one) = weigh_node(store, left.number, left_more(left, right).len(), 0) else {
+        return false;
+    };
+    let both = weigh_node(store, right.number, right_more(left, right).len(), one);
+    both.is_some()
 }

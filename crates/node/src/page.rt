@@ -1,6 +1,7 @@
 // The page of a node that is being written: entries, one behind the other, on zeros; and the page as a node of a store. Relies on writer, which lays
 // out an entry and the first bytes of a page.
 ghost use Rattle.std.specs.Prelude.{◌≡◌, ◌+◌, ◌*◌, ◌<◌, ◌≤◌, [], ◌++◌, length, take, drop};
+ghost use Rattle.image.specs.Entry.{pair, child};
 ghost use Rattle.laws.specs.Encode.{bytes_of};
 ghost use Rattle.laws.specs.Page.{page};
 ghost use Rattle.laws.specs.WriteNode.{write_node};
@@ -52,6 +53,26 @@ impl Page {
         ensures { self.new ≡ self.old ++ bytes_of (entry_is entry.entry) }
     {
         let end = writer::write_entry(&mut self.bytes, image::ENTRIES_AT + self.len, entry);
+        self.len = end - image::ENTRIES_AT;
+    }
+
+    // A pair behind the others, with more bytes in front of its suffix.
+    pub fn push_longer_pair(&mut self, more: &[u8], key: &[u8], value: &[u8])
+        requires { length self.old + length (bytes_of (pair (more.now ++ key.now) value.now)) ≤ 1016 }
+        ensures { self.new ≡ self.old ++ bytes_of (pair (more.now ++ key.now) value.now) }
+    {
+        let at = image::ENTRIES_AT + self.len;
+        let end = writer::write_longer_pair(&mut self.bytes, at, more, key, value);
+        self.len = end - image::ENTRIES_AT;
+    }
+
+    // A child behind the others, with more bytes in front of its pivot.
+    pub fn push_longer_child(&mut self, number: usize, more: &[u8], pivot: &[u8])
+        requires { (length self.old + length (bytes_of (child number (more.now ++ pivot.now))) ≤ 1016) × (number < 65536) }
+        ensures { self.new ≡ self.old ++ bytes_of (child number (more.now ++ pivot.now)) }
+    {
+        let at = image::ENTRIES_AT + self.len;
+        let end = writer::write_longer_child(&mut self.bytes, at, number, more, pivot);
         self.len = end - image::ENTRIES_AT;
     }
 

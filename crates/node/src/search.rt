@@ -51,7 +51,6 @@ pub fn entry_covers(s: &[u8], e: Entry, rest: &[u8]) -> bool
 }
 
 // What the newest message on a rest says of it, of these entries.
-#[tactic(auto, unfolding(crate::specs::Search::Latest::newest_among, crate::specs::Search::Latest::entry_says))]
 pub fn newest<'a>(entries: Entries<'a>, rest: &[u8]) -> Option<Option<&'a [u8]>>
     ensures { said_is result ≡ newest_among (left_of entries.entry) rest.now }
 {

@@ -9,7 +9,7 @@ ghost use Rattle.questions.specs.Asked.{Asked};
 ghost use Rattle.rebuild.specs.Rebuild.{cleared};
 
 use image::Refusal;
-use tree_check::{Checked, Tally};
+use tree_check::Tally;
 
 // Asks both questions, in order. Where both are a yes it answers what the check of the image has counted, and `seen` has 1 for each node that is
 // reached and 0 for the others.
@@ -22,11 +22,7 @@ pub fn ask(store: &[u8], work: &[u8], seen: &mut [u8; 1024]) -> Result<Tally, Re
     if work.len() < image::WORK_PER_NODE * (store.len() / image::NODE_SIZE) {
         return Err(Refusal::Length);
     }
-    let c = soundness::judge(store, seen);
-    let Checked::Sound(tally) = c else {
-        return Err(Refusal::Unsound);
-    };
-    Ok(tally)
+    soundness::judge(store, seen).ok_or(Refusal::Unsound)
 }
 
 // The end of an accepted call on a store of n nodes: its part of the work area is left zero.

@@ -8,29 +8,26 @@ ghost use Rattle.image.specs.Image.{whole_nodes};
 ghost use Rattle.image.specs.Sound.{sound};
 ghost use Rattle.soundness.specs.Judged.{Judged};
 
-use tree_check::Checked;
+use tree_check::Tally;
 
 // The verdict on an image. Where it is sound: how many pairs, messages and nodes there are, and in `seen` which nodes are reached.
-pub fn judge(store: &[u8], seen: &mut [u8; 1024]) -> Checked
+pub fn judge(store: &[u8], seen: &mut [u8; 1024]) -> Option<Tally>
     requires { whole_nodes (length store.now) ≡ true }
     ensures { Judged store.now result seen.new }
 {
-    let c = tree_check::check_tree(store, seen);
-    let Checked::Sound(tally) = c else {
-        return Checked::Unsound;
-    };
+    let tally = tree_check::check_tree(store, seen)?;
     let told = node::header::read_live(store);
     if tally.messages == 0 {
         if tally.pairs == told {
-            return Checked::Sound(tally);
+            return Some(tally);
         }
-        return Checked::Unsound;
+        return None;
     }
     let counted = live_count::count_paths(store);
     if counted == told {
-        return Checked::Sound(tally);
+        return Some(tally);
     }
-    Checked::Unsound
+    None
 }
 
 // Whether an image is sound.
@@ -38,10 +35,5 @@ pub fn is_sound(store: &[u8]) -> bool
     requires { whole_nodes (length store.now) ≡ true }
     ensures { result ≡ sound store.now }
 {
-    let mut seen = [0u8; 1024];
-    let c = judge(store, &mut seen);
-    let Checked::Sound(_) = c else {
-        return false;
-    };
-    true
+    judge(store, &mut [0; 1024]).is_some()
 }

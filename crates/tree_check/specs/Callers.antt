@@ -1,6 +1,6 @@
 -- Laws for those who call the check: what its answer says of `sound`, of the live count, of `settled` and of the nodes in use.
 -- Relies on Whole and on the laws of a tree with no message (laws: LiveCount).
-use Rattle.std.specs.Prelude.{ℕ, suc, ◌+◌, ◌<◌, ◌≤◌, ◌≡◌, refl, List, [], ◌∷◌, Bool, true, false, ◌&&◌, length, leb, eqb}
+use Rattle.std.specs.Prelude.{ℕ, suc, ◌+◌, ◌<◌, ◌≤◌, ◌≡◌, refl, List, [], ◌∷◌, Bool, true, false, ◌&&◌, length, leb, eqb, None, Some}
 use Rattle.image.specs.Prelude.{sym, ap, ap₂, subst, ◌∙◌, false≢true, arith, eq-eqb, ne_eqb, eqb-true, eqb-false, leb-true, leb-false, le-leb}
 use Rattle.image.specs.Image.{Tree, unread, leaf, interior, Forest, end, tree, nodes_of, header_of, tree_of}
 use Rattle.image.specs.Sound.{sound, numbers, lowest, highest, table_of}
@@ -8,12 +8,12 @@ use Rattle.image.specs.Upkeep.{reachable, reachable_nodes, every, holds_no_messa
 use Rattle.laws.specs.Pieces.{still, still_in}
 use Rattle.laws.specs.LiveCount.{pair_count, pairs-live, still-quiet, quiet-still}
 use Rattle.tree_check.specs.declared.Tally.{Tally}
-use Rattle.tree_check.specs.declared.Checked.{Checked}
+use Rattle.tree_check.specs.Answer.{Checked}
 use Rattle.tree_check.specs.Count.{message_count, message_count_in, count_of, capped}
 use Rattle.octets.specs.Cap.{cap, cap-small, cap-large}
 use Rattle.tree_check.specs.Answer.{Counts}
 use Rattle.laws.specs.ButLive.{sound_but_live, sound-live, parts_of}
-use Rattle.tree_check.specs.Whole.{is_sound, Marks, Marked, Verified}
+use Rattle.tree_check.specs.Whole.{Marks, Marked, Verified}
 
 -- an answer, used
 pub record Established (image : List ℕ) (t : Tally) (seen : List ℕ) : Type 0 where
@@ -21,13 +21,12 @@ pub record Established (image : List ℕ) (t : Tally) (seen : List ℕ) : Type 0
   pub tally : t ≡ capped (count_of (tree_of image))
   pub reached : Marks image seen
 
-pub verified-yes : (image : List ℕ) (r : Checked) (t : Tally) (seen : List ℕ) → Verified image r seen → r ≡ Checked.Sound t → Established image t seen
-unfolding is_sound Counts Marked
+pub verified-yes : (image : List ℕ) (r : Checked) (t : Tally) (seen : List ℕ) → Verified image r seen → r ≡ Some t → Established image t seen
+unfolding Counts Marked
 verified-yes image r t seen v e =
     record { rules = sym v.answer ∙ rw e; tally = subst (Counts (count_of (tree_of image))) e v.counts; reached = subst (Marked image seen) e v.marks }
 
-pub verified-no : (image : List ℕ) (r : Checked) (seen : List ℕ) → Verified image r seen → r ≡ Checked.Unsound → sound_but_live image ≡ false
-unfolding is_sound
+pub verified-no : (image : List ℕ) (r : Checked) (seen : List ℕ) → Verified image r seen → r ≡ None → sound_but_live image ≡ false
 verified-no image r seen v e = sym v.answer ∙ rw e
 
 -- no message in any node

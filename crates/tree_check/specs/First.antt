@@ -1,56 +1,96 @@
--- What the reader of an interior node's first entry promises: the first child, whose pivot is the node's own low one, or that there is none.
--- Relies on Walk and Layout.
-use Rattle.std.specs.Prelude.{ℕ, zero, suc, ◌+◌, ◌-◌, ◌*◌, ◌≤◌, ◌≡◌, refl, List, [], Bool, true, false, length}
-use Rattle.image.specs.Prelude.{sym, ap, subst, ◌∙◌, Option, none, some, arith}
-use Rattle.image.specs.Bytes.{same}
+-- The child that bytes begin with, and the first one of an interior node, whose pivot is to be the node's own low one.
+-- Relies on Walk and Layout, and on node's reading of an entry (Lent).
+use Rattle.std.specs.Prelude.{ℕ, ◌+◌, ◌*◌, ◌<◌, ◌≤◌, ◌≡◌, refl, List, [], ◌∷◌, Bool, true, false, length}
+use Rattle.std.specs.Borrow.{Bor}
+use Rattle.image.specs.Prelude.{sym, ap, ◌∙◌, Option, none, some, arith}
+use Rattle.image.specs.Bytes.{u16, same}
 use Rattle.image.specs.Entry as defined
 use Rattle.image.specs.Image.{node_bytes, laid_out, node_entries}
-use Rattle.node.specs.Entries.{entries_from, entries-end}
-use Rattle.node.specs.Places.{part, entry_in, Within, Next, Stepped, step-bad-is, step-read-is, cursor_of, entries-inside}
-use Rattle.node.specs.declared.Place.{Place}
-use Rattle.node.specs.declared.Cursor.{Cursor}
-use Rattle.node.specs.declared.Entry.{Entry}
-use Rattle.node.specs.declared.Step.{Step}
-use Rattle.node.specs.declared.search.Branch.{Branch}
-use Rattle.node.specs.Search.Own.{branch_is, branch-place, child-entry}
-use Rattle.tree_check.specs.declared.First.{First}
+use Rattle.octets.specs.Order.{same-eq}
+use Rattle.node.specs.Cut.{cut}
+use Rattle.node.specs.Entries.{list_of}
+use Rattle.node.specs.Lent.{entry_is, Unread, Leads}
+use Rattle.node.specs.declared.entries.Entry.{Entry}
 use Rattle.tree_check.specs.Walk.{headed}
-use Rattle.tree_check.specs.Layout.{entries_at, entries_none, laid-entries}
+use Rattle.tree_check.specs.Layout.{entries_at, entries_none}
 
-pub record Leads (s : List ℕ) (i level : ℕ) (lo : List ℕ) (j : ℕ) (p : Place) (c : Cursor) : Type 0 where
-  pub reads : node_entries 0x0002 level (node_bytes s i) ≡ defined.entry_then (some (defined.child j (part s p))) (entries_from s c.at c.end)
-  pub pivot : same (part s p) lo ≡ true
-  pub place : Within 0 (length s) p
-  pub fits : c.end ≤ length s
-  pub near : c.end - c.at ≤ 1016
+-- THE CHILD IN FRONT
+unfoldable pub child_first : List defined.Entry → Bool
+child_first [] = false
+child_first (defined.pair k v ∷ es) = false
+child_first (defined.child j q ∷ es) = true
+child_first (defined.message m ∷ es) = false
 
-unfoldable pub FirstAs : List ℕ → ℕ → ℕ → List ℕ → First → Type 0
-FirstAs s i level lo (First.Child j p c) = Leads s i level lo j p c
-FirstAs s i level lo First.Nothing = headed lo (node_entries 0x0002 level (node_bytes s i)) ≡ false
+unfoldable pub child_leads : Option (List defined.Entry) → Bool
+child_leads none = false
+child_leads (some es) = child_first es
 
-pub first-nothing-is : (s : List ℕ) (i level : ℕ) (lo : List ℕ) (r : First) → FirstAs s i level lo r → r ≡ First.Nothing → headed lo (node_entries 0x0002 level (node_bytes s i)) ≡ false
-unfolding FirstAs
-first-nothing-is s i level lo r h e = subst (FirstAs s i level lo) e h
+-- bytes that a child does not begin; a child with its pivot, and the bytes behind it
+pub record Childless (b : List ℕ) : Type 0 where
+  pub whole : child_leads (defined.entries_of b) ≡ false
+  pub lists : child_first (list_of b) ≡ false
 
-pub first-child-is : (s : List ℕ) (i level : ℕ) (lo : List ℕ) (r : First) (j : ℕ) (p : Place) (c : Cursor) → FirstAs s i level lo r → r ≡ First.Child j p c → Leads s i level lo j p c
-unfolding FirstAs
-first-child-is s i level lo r j p c h e = subst (FirstAs s i level lo) e h
+pub record Begins (b : List ℕ) (j : ℕ) (q r : List ℕ) : Type 0 where
+  pub whole : defined.entries_of b ≡ defined.entry_then (some (defined.child j q)) (defined.entries_of r)
+  pub lists : list_of b ≡ defined.child j q ∷ list_of r
+  pub shorter : length r < length b
+
+no_list : (l : List defined.Entry) → l ≡ [] → child_first l ≡ false
+unfolding child_first
+no_list l e = rw e
+
+unread_leads : (b : List ℕ) → Unread b → child_leads (defined.entries_of b) ≡ false
+unfolding child_leads
+unread_leads [] u = unfold child_first defined.entries_of defined.read_all in refl
+unread_leads (c ∷ b) u = rw (u.first (omega arith))
+
+pub unread-childless : (b : List ℕ) → Unread b → Childless b
+unread-childless b u = record { whole = unread_leads b u; lists = no_list (list_of b) u.lists }
+
+module _ (e : Entry) (h : (i : ℕ) (k : Bor (List ℕ)) → e ≡ Entry.Child i k → ⊥) where
+  other-first : (es : List defined.Entry) → child_first (entry_is e ∷ es) ≡ false
+  other-first es = go e h
+    where
+      go : (e : Entry) → ((i : ℕ) (k : Bor (List ℕ)) → e ≡ Entry.Child i k → ⊥) → child_first (entry_is e ∷ es) ≡ false
+      go (Entry.Pair k v) h = unfold child_first in refl
+      go (Entry.Child i k) h = absurd (h i k refl)
+      go (Entry.Message m) h = unfold child_first in refl
+
+  other-leads : (y : Option (List defined.Entry)) → child_leads (defined.entry_then (some (entry_is e)) y) ≡ false
+  unfolding child_leads defined.entry_then
+  other-leads none = refl
+  other-leads (some es) = other-first es
+
+  pub other-childless : (b r : List ℕ) → Leads b e r → Childless b
+  other-childless b r l = record { whole = ap child_leads l.first ∙ other-leads (defined.entries_of r); lists = ap child_first l.lists ∙ other-first (list_of r) }
+
+pub child-begins : (b : List ℕ) (e : Entry) (r : List ℕ) → Leads b e r → (i : ℕ) (k : Bor (List ℕ)) → e ≡ Entry.Child i k → Begins b i k.now r
+child-begins b e r l i k q =
+    record {
+      whole = l.first ∙ ap (λ x. defined.entry_then (some (entry_is x)) (defined.entries_of r)) q;
+      lists = l.lists ∙ ap (λ x. entry_is x ∷ list_of r) q;
+      shorter = let w = l.shorter in omega arith;
+    }
+
+-- THE FIRST CHILD
+-- no first child with this pivot; the first child, with its pivot and the bytes behind it
+abbrev pub NoFirst : List ℕ → ℕ → ℕ → List ℕ → Type 0
+NoFirst s i level lo = headed lo (node_entries 0x0002 level (node_bytes s i)) ≡ false
+
+abbrev pub FirstOf : List ℕ → ℕ → ℕ → List ℕ → ℕ → List ℕ → Type 0
+FirstOf s i level lo j r = node_entries 0x0002 level (node_bytes s i) ≡ defined.entry_then (some (defined.child j lo)) (defined.entries_of r)
 
 headed-none : (lo : List ℕ) (o : Option (List defined.Entry)) → o ≡ none → headed lo o ≡ false
 unfolding headed
 headed-none lo o e = rw e
 
-headed-empty : (lo : List ℕ) (o : Option (List defined.Entry)) → o ≡ some [] → headed lo o ≡ false
-unfolding headed
-headed-empty lo o e = rw e
-
-headed-other : (lo : List ℕ) (e : Entry) (s : List ℕ) (y : Option (List defined.Entry)) → branch_is e ≡ Branch.Other → headed lo (defined.entry_then (some (entry_in s e)) y) ≡ false
-unfolding headed defined.entry_then branch_is
-headed-other lo (Entry.Pair p v) s none h = refl
-headed-other lo (Entry.Pair p v) s (some es) h = refl
-headed-other lo (Entry.Child i p) s y h = let z : ◌≡◌ {A = ℕ} 0 1 = cc in absurd (omega arith)
-headed-other lo (Entry.Message m) s none h = refl
-headed-other lo (Entry.Message m) s (some es) h = refl
+headed-other : (lo : List ℕ) (o : Option (List defined.Entry)) → child_leads o ≡ false → headed lo o ≡ false
+unfolding headed child_leads child_first
+headed-other lo none h = refl
+headed-other lo (some []) h = refl
+headed-other lo (some (defined.pair k v ∷ es)) h = refl
+headed-other lo (some (defined.child j q ∷ es)) h = let z : ◌≡◌ {A = ℕ} 0 1 = cc in absurd (omega arith)
+headed-other lo (some (defined.message m ∷ es)) h = refl
 
 headed-child : (lo : List ℕ) (j : ℕ) (q : List ℕ) (y : Option (List defined.Entry)) → same q lo ≡ false → headed lo (defined.entry_then (some (defined.child j q)) y) ≡ false
 unfolding headed defined.entry_then
@@ -58,56 +98,20 @@ headed-child lo j q none h = refl
 headed-child lo j q (some es) h = h
 
 -- the exits of the reader
-module _ (s : List ℕ) (i level : ℕ) (lo : List ℕ) (inside : i * 1024 + 1024 ≤ length s) (b : Bool) (eb : b ≡ laid_out 2 level (node_bytes s i)) where
-  pub not-laid : b ≡ false → FirstAs s i level lo First.Nothing
-  unfolding FirstAs
-  not-laid f = headed-none lo (node_entries 0x0002 level (node_bytes s i)) (entries_none s i 2 level inside (sym eb ∙ f))
+module _ (s : List ℕ) (i level : ℕ) (lo : List ℕ) (inside : i * 1024 + 1024 ≤ length s) (x : Bool) (ex : x ≡ laid_out 2 level (node_bytes s i)) where
+  pub not-laid : x ≡ false → NoFirst s i level lo
+  not-laid f = headed-none lo (node_entries 0x0002 level (node_bytes s i)) (entries_none s i 2 level inside (sym ex ∙ f))
 
-  module _ (f : b ≡ true) (entries : Cursor) (ee : entries ≡ cursor_of s i) where
-    pub first-inside : (entries.at ≤ entries.end) × (entries.end ≤ entries.at + 1016) × (entries.end ≤ length s)
-    first-inside = entries-inside s i entries ee (laid-entries s i 2 level inside (sym eb ∙ f))
+  module _ (f : x ≡ true) (b : List ℕ) (eb : b ≡ cut s (i * 1024 + 8) (i * 1024 + 8 + u16 s (i * 1024))) where
+    at-node : node_entries 0x0002 level (node_bytes s i) ≡ defined.entries_of b
+    at-node = entries_at s i 2 level inside b eb (sym ex ∙ f)
 
-    abbrev O : Option (List defined.Entry)
-    O = entries_from s entries.at entries.end
+    pub no-child : Childless b → NoFirst s i level lo
+    no-child c = ap (λ o. headed lo o) at-node ∙ headed-other lo (defined.entries_of b) c.whole
 
-    at-node : node_entries 0x0002 level (node_bytes s i) ≡ O
-    at-node = entries_at s i 2 level inside entries ee (sym eb ∙ f)
+    module _ (j : ℕ) (q r : List ℕ) (g : Begins b j q r) (t : Bool) (et : t ≡ same q lo) where
+      pub other-pivot : t ≡ false → NoFirst s i level lo
+      other-pivot h = ap (λ o. headed lo o) (at-node ∙ g.whole) ∙ headed-child lo j q (defined.entries_of r) (sym et ∙ h)
 
-    first-none : headed lo O ≡ false → FirstAs s i level lo First.Nothing
-    unfolding FirstAs
-    first-none h = ap (λ o. headed lo o) at-node ∙ h
-
-    module _ (r : Step) (hr : Stepped s entries.at entries.end r) where
-      pub no-entry : r ≡ Step.Bad → FirstAs s i level lo First.Nothing
-      no-entry q = go (entries.end - entries.at) refl
-        where
-          go : (n : ℕ) → entries.end - entries.at ≡ n → FirstAs s i level lo First.Nothing
-          go zero e = first-none (headed-empty lo O (entries-end s entries.at entries.end (omega arith)))
-          go (suc n) e = first-none (headed-none lo O ((step-bad-is s entries.at entries.end r hr q).0 (omega arith)))
-
-      module _ (e : Entry) (c : Cursor) (er : r ≡ Step.Read e c) where
-        next : Next s entries.at entries.end e c
-        next = step-read-is s entries.at entries.end r e c hr er
-
-        pub no-child : branch_is e ≡ Branch.Other → FirstAs s i level lo First.Nothing
-        no-child h = first-none (ap (λ o. headed lo o) next.first ∙ headed-other lo e s (entries_from s c.at c.end) h)
-
-        module _ (j : ℕ) (p : Place) (ek : branch_is e ≡ Branch.Of j p) where
-          pub first-place : Within 0 (length s) p
-          first-place =
-              let w = branch-place entries.at entries.end e j p ek next.reachable in
-              let w1 = first-inside in
-              record { low = omega arith; rises = w.rises; high = omega arith }
-
-          begins : O ≡ defined.entry_then (some (defined.child j (part s p))) (entries_from s c.at c.end)
-          begins = next.first ∙ ap (λ x. defined.entry_then (some (entry_in s x)) (entries_from s c.at c.end)) (child-entry e j p ek)
-
-          pub other-pivot : (t : Bool) → t ≡ same (part s p) lo → t ≡ false → FirstAs s i level lo First.Nothing
-          other-pivot t et ft = first-none (ap (λ o. headed lo o) begins ∙ headed-child lo j (part s p) (entries_from s c.at c.end) (sym et ∙ ft))
-
-          pub first-child : (t : Bool) → t ≡ same (part s p) lo → t ≡ true → FirstAs s i level lo (First.Child j p c)
-          unfolding FirstAs
-          first-child t et ft =
-              let n = next in
-              let w1 = first-inside in
-              record { reads = at-node ∙ begins; pivot = sym et ∙ ft; place = first-place; fits = omega arith; near = omega arith }
+      pub first-child : t ≡ true → FirstOf s i level lo j r
+      first-child h = at-node ∙ g.whole ∙ ap (λ p. defined.entry_then (some (defined.child j p)) (defined.entries_of r)) (same-eq q lo (sym et ∙ h))

@@ -7,10 +7,7 @@ use Rattle.image.specs.Entry as defined
 use Rattle.image.specs.Image.{node_bytes, nodes_of, laid_out, node_entries}
 use Rattle.octets.specs.Order.{and-false, and_assoc}
 use Rattle.node.specs.Cut.{cut, cut-drop, cut-u16, cut-nil}
-use Rattle.node.specs.Entries.{entries_from, listed, all_listed}
-use Rattle.node.specs.Places.{cursor_of}
 use Rattle.node.specs.Whole.{HasEntries}
-use Rattle.node.specs.declared.Cursor.{Cursor}
 use Rattle.lookup.specs.Look.{node-is, count-is, bytes-is, laid-short as look-short}
 
 -- the number of nodes as the code computes it
@@ -49,11 +46,6 @@ larger-first a b h = go (eqb a 0) refl
     go : (x : Bool) → eqb a 0 ≡ x → eqb a 0 ≡ (eqb a 0 && eqb b 0)
     go true e = let z : a ≡ 0 = eqb-true a 0 e in let y : eqb b 0 ≡ true = eq-eqb b 0 (omega arith) in rw (e, y)
     go false e = rw e
-
--- entries that all read are the list that a counting reader walks
-pub reads-listed : (s : List ℕ) (at end : ℕ) (es : List defined.Entry) → entries_from s at end ≡ some es → listed s at end ≡ es
-unfolding entries_from listed
-reads-listed s at end es h = all_listed (cut s at end) es h
 
 -- A node in the store: each test that may fail, and all of them.
 module _ (s : List ℕ) (i kind level : ℕ) (inside : i * 1024 + 1024 ≤ length s) where
@@ -126,10 +118,10 @@ module _ (s : List ℕ) (i kind level : ℕ) (inside : i * 1024 + 1024 ≤ lengt
       let c : u16 (node_bytes s i) 0 ≡ u16 s (i * 1024) = count-is s i inside in
       (inside, omega arith)
 
-  pub entries_at : (entries : Cursor) → entries ≡ cursor_of s i → laid_out kind level (node_bytes s i) ≡ true
-      → node_entries kind level (node_bytes s i) ≡ entries_from s entries.at entries.end
-  unfolding node_entries entries_from
-  entries_at entries e h = rw h (ap (λ l. defined.entries_of l) (bytes-is s i inside (laid-entries h).1 ∙ ap (λ x. cut s x.at x.end) (sym e)))
+  pub entries_at : (b : List ℕ) → b ≡ cut s (i * 1024 + 8) (i * 1024 + 8 + u16 s (i * 1024)) → laid_out kind level (node_bytes s i) ≡ true
+      → node_entries kind level (node_bytes s i) ≡ defined.entries_of b
+  unfolding node_entries
+  entries_at b e h = rw h (ap (λ l. defined.entries_of l) (bytes-is s i inside (laid-entries h).1 ∙ sym e))
 
   pub entries_none : laid_out kind level (node_bytes s i) ≡ false → node_entries kind level (node_bytes s i) ≡ none
   unfolding node_entries

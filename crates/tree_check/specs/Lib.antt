@@ -7,9 +7,7 @@ pub mod Layout
 pub mod First
 pub mod LeafSteps
 pub mod Sequence
-pub mod Held
 pub mod ChildSteps
-pub mod HeldSteps
 pub mod NodeSteps
 pub mod Whole
 pub mod RootSteps

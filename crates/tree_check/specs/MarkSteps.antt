@@ -1,6 +1,6 @@
 -- The walk that marks a sound store: what it leaves of a tree, and one law for each step of its code.
 -- Relies on laws/Reading (`mark_all`, `usable`), on lookup's view of a usable node, and on RootSteps and Callers for the store as a whole.
-use Rattle.std.specs.Prelude.{ℕ, ◌-◌, ◌<◌, ◌≤◌, ◌≡◌, refl, List, [], ◌∷◌, Bool, true, false, ◌&&◌, length, set}
+use Rattle.std.specs.Prelude.{ℕ, ◌+◌, ◌-◌, ◌*◌, ◌<◌, ◌≤◌, ◌≡◌, refl, List, [], ◌∷◌, Bool, true, false, ◌&&◌, length, set}
 use Rattle.image.specs.Prelude.{sym, ap, ap₂, subst, ◌∙◌, and-true, Option, none, some, arith}
 use Rattle.image.specs.Bytes.{u16}
 use Rattle.image.specs.Entry as defined
@@ -13,13 +13,11 @@ use Rattle.octets.specs.Order.{and-false, and_left, and_right, and_assoc}
 use Rattle.laws.specs.Pieces.{still, still_in}
 use Rattle.laws.specs.Reading.Relative.{usable, usable_in}
 use Rattle.laws.specs.Reading.Visit.{mark, mark_all, blank, mark-append}
-use Rattle.node.specs.Places.{part, entry_in, message_in, cursor_of}
+use Rattle.std.specs.Borrow.{Bor}
 use Rattle.node.specs.Entries.{listed}
-use Rattle.node.specs.declared.Place.{Place}
-use Rattle.node.specs.declared.Cursor.{Cursor}
-use Rattle.node.specs.declared.Entry.{Entry}
-use Rattle.node.specs.declared.search.Branch.{Branch}
-use Rattle.node.specs.Search.Own.{branch, branch_is, child-entry}
+use Rattle.node.specs.Lent.{entry_is, message_is}
+use Rattle.node.specs.declared.entries.Entry.{Entry}
+use Rattle.node.specs.Search.Own.{branch}
 use Rattle.lookup.specs.Look.{leaf-at, interior-at, node-inside}
 use Rattle.lookup.specs.Root.{starts, root_is}
 use Rattle.tree_check.specs.Whole.{Marks}
@@ -57,13 +55,13 @@ module _ (s : List ℕ) (level num : ℕ) (u : usable (nodes_of (length s)) (tre
   pub leaf-marked : (before : List ℕ) → level ≤ 1 → MarksTree (tree_at level s num) before true (set before num 1)
   leaf-marked before l = let n = leaf-at s num level l u in subst (λ t. MarksTree t before true (set before num 1)) (sym n.tree) (one-marked num n.rs before)
 
-  pub left-start : (start : List ℕ) → 2 ≤ level → (entries : Cursor) → entries ≡ cursor_of s num
-      → Left s (level - 1) num (tree_at level s num) start (listed s entries.at entries.end) start true
-  left-start start l entries e =
+  pub left-start : (start : List ℕ) → 2 ≤ level → (es : List defined.Entry) → es ≡ listed s (num * 1024 + 8) (num * 1024 + 8 + u16 s (num * 1024))
+      → Left s (level - 1) num (tree_at level s num) start es start true
+  left-start start l es e =
       let n = interior-at s num level l u in
       record {
         x = n.x;
-        splits = ap (λ x. inside_of (listed s x.at x.end)) e ∙ ap inside_of n.node.lists ∙ n.splits;
+        splits = ap inside_of e ∙ ap inside_of n.node.lists ∙ n.splits;
         branches = n.branches;
         marks = λ before q. node-marked num (forest_of (λ j. tree_at (level - 1) s j) n.x.branches) n.x.messages before start q
             ∙ ap (λ t. mark_all before (numbers t)) (sym n.tree);
@@ -76,17 +74,17 @@ unfolding inside_of
 no_more x h = cc
 
 -- an entry that is no child is a message, and only messages follow it
-waits : (e : Entry) (s : List ℕ) (ts : List defined.Entry) (x : Inside) → inside_of (entry_in s e ∷ ts) ≡ some x → branch_is e ≡ Branch.Other
+waits : (e : Entry) (ts : List defined.Entry) (x : Inside) → inside_of (entry_is e ∷ ts) ≡ some x → ((i : ℕ) (k : Bor (List ℕ)) → e ≡ Entry.Child i k → ⊥)
     → (m : defined.Message) × ((ms : List defined.Message) × (x ≡ record { branches = []; messages = m ∷ ms }))
-waits (Entry.Pair p v) s ts x h k = let q : none ≡ some x = unfold inside_of in h in let z : ◌≡◌ {A = ℕ} 0 1 = cc in absurd (omega arith)
-waits (Entry.Child i p) s ts x h k = let q : Branch.Of i p ≡ Branch.Other = unfold branch_is in k in let z : ◌≡◌ {A = ℕ} 0 1 = cc in absurd (omega arith)
-waits (Entry.Message m) s ts x h k = go (messages_of ts) refl
+waits (Entry.Pair p v) ts x h k = let q : none ≡ some x = unfold inside_of in h in let z : ◌≡◌ {A = ℕ} 0 1 = cc in absurd (omega arith)
+waits (Entry.Child i p) ts x h k = absurd (k i p refl)
+waits (Entry.Message m) ts x h k = go (messages_of ts) refl
   where
     go : (o : Option (List defined.Message)) → messages_of ts ≡ o → (n : defined.Message) × ((ms : List defined.Message) × (x ≡ record { branches = []; messages = n ∷ ms }))
     go none e = let q : none ≡ some x = unfold inside_of messages_of message_then no_branches in rw e at h in let z : ◌≡◌ {A = ℕ} 0 1 = cc in absurd (omega arith)
     go (some ms) e =
-        let q : some (record { branches = []; messages = message_in s m ∷ ms }) ≡ some x = unfold inside_of messages_of message_then no_branches in rw e at h in
-        (message_in s m, (ms, cc))
+        let q : some (record { branches = []; messages = message_is m ∷ ms }) ≡ some x = unfold inside_of messages_of message_then no_branches in rw e at h in
+        (message_is m, (ms, cc))
 
 -- a child in front of the others
 follows : (i : ℕ) (q : List ℕ) (ts : List defined.Entry) (x : Inside) → inside_of (defined.child i q ∷ ts) ≡ some x
@@ -128,20 +126,20 @@ module _ (s : List ℕ) (lower num : ℕ) (t : Tree) (start : List ℕ) (es : Li
       let e : l.x ≡ x = no_more l.x (ap inside_of (sym q) ∙ l.splits) in
       record { marks = marks-at before f x e; answer = sym (and-true quiet) ∙ answer-at x e }
 
-  module _ (e : Entry) (ts : List defined.Entry) (q : es ≡ entry_in s e ∷ ts) where
-    here : inside_of (entry_in s e ∷ ts) ≡ some l.x
+  module _ (e : Entry) (ts : List defined.Entry) (q : es ≡ entry_is e ∷ ts) where
+    here : inside_of (entry_is e ∷ ts) ≡ some l.x
     here = ap inside_of (sym q) ∙ l.splits
 
-    pub left-message : (before : List ℕ) → start ≡ set before num 1 → branch_is e ≡ Branch.Other → MarksTree t before false seen
+    pub left-message : (before : List ℕ) → start ≡ set before num 1 → ((i : ℕ) (k : Bor (List ℕ)) → e ≡ Entry.Child i k → ⊥) → MarksTree t before false seen
     unfolding forest_of numbers_in mark_all still
     left-message before f k =
-        let w = waits e s ts l.x here k in
+        let w = waits e ts l.x here k in
         let x : Inside = record { branches = []; messages = w.0 ∷ w.1.0 } in
         record { marks = marks-at before f x w.1.1; answer = sym (and-false quiet) ∙ answer-at x w.1.1 }
 
-    module _ (i : ℕ) (p : Place) (k : branch_is e ≡ Branch.Of i p) where
-      next : (y : Inside) × ((inside_of ts ≡ some y) × (l.x ≡ record { branches = branch i (part s p) ∷ y.branches; messages = y.messages }))
-      next = follows i (part s p) ts l.x (ap (λ z. inside_of (entry_in s z ∷ ts)) (sym (child-entry e i p k)) ∙ here)
+    module _ (i : ℕ) (p : Bor (List ℕ)) (k : e ≡ Entry.Child i p) where
+      next : (y : Inside) × ((inside_of ts ≡ some y) × (l.x ≡ record { branches = branch i p.now ∷ y.branches; messages = y.messages }))
+      next = follows i p.now ts l.x (ap (λ z. inside_of (entry_is z ∷ ts)) (sym k) ∙ here)
 
       both-usable : usable (nodes_of (length s)) (tree_at lower s i) && usable_in (nodes_of (length s)) (below next.0.branches) ≡ true
       unfolding forest_of usable_in
@@ -152,15 +150,15 @@ module _ (s : List ℕ) (lower num : ℕ) (t : Tree) (start : List ℕ) (es : Li
 
       pub left-next : (r b : Bool) (after : List ℕ) → MarksTree (tree_at lower s i) seen r after → b ≡ quiet && r → Left s lower num t start ts after b
       left-next r b after m f =
-          let x : Inside = record { branches = branch i (part s p) ∷ next.0.branches; messages = next.0.messages } in
+          let x : Inside = record { branches = branch i p.now ∷ next.0.branches; messages = next.0.messages } in
           record {
             x = next.0;
             splits = next.1.0;
             branches = and_right (usable (nodes_of (length s)) (tree_at lower s i)) _ both-usable;
-            marks = λ before g. ap (λ z. mark_all z (numbers_in (below next.0.branches))) m.marks ∙ more-marked (λ j. tree_at lower s j) (branch i (part s p)) next.0.branches seen
+            marks = λ before g. ap (λ z. mark_all z (numbers_in (below next.0.branches))) m.marks ∙ more-marked (λ j. tree_at lower s j) (branch i p.now) next.0.branches seen
                 ∙ marks-at before g x next.1.1;
             answer = ap (λ z. z && still (interior num (below next.0.branches) next.0.messages)) (f ∙ ap (λ z. quiet && z) m.answer)
-                ∙ more-still (λ j. tree_at lower s j) (branch i (part s p)) next.0.branches num next.0.messages quiet ∙ answer-at x next.1.1;
+                ∙ more-still (λ j. tree_at lower s j) (branch i p.now) next.0.branches num next.0.messages quiet ∙ answer-at x next.1.1;
           }
 
 -- THE STORE

@@ -1,6 +1,6 @@
 -- The exits of the check of node 0 and of the check of an image.
 -- Relies on Whole, and on laws/Reading's law of the walk from the root with no mark set (`visit-root`).
-use Rattle.std.specs.Prelude.{ℕ, ◌+◌, ◌*◌, ◌<◌, ◌≤◌, ◌≡◌, refl, List, [], ◌∷◌, Bool, true, false, ◌&&◌, ◌||◌, cond, length, drop, get_or, set, ltb, leb, eqb}
+use Rattle.std.specs.Prelude.{ℕ, ◌+◌, ◌*◌, ◌<◌, ◌≤◌, ◌≡◌, refl, List, [], ◌∷◌, Bool, true, false, ◌&&◌, ◌||◌, cond, length, drop, get_or, set, ltb, leb, eqb, is_some, None, Some}
 use Rattle.image.specs.Prelude.{sym, ap, ap₂, subst, ◌∙◌, and-true, none, some, arith, length-set, length-replicate, get_or-set_same, get_or-set_other, ext_get_or, lt-ltb, le-ltb, le-leb, lt-leb, eq-eqb, ne_eqb, eqb-true, eqb-false, ltb-true}
 use Rattle.image.specs.Bytes.{u16, zeros}
 use Rattle.image.specs.Image.{Tree, node_bytes, nodes_of, header, header_of, header_laid_out, tree_at, tree_of}
@@ -12,11 +12,11 @@ use Rattle.path.specs.Fed.{Shape, shape_is}
 use Rattle.node.specs.Cut.{cut, cut-drop}
 use Rattle.lookup.specs.Look.{node-is}
 use Rattle.lookup.specs.Root.{first-u16}
-use Rattle.tree_check.specs.declared.Checked.{Checked}
+use Rattle.tree_check.specs.Answer.{Checked}
 use Rattle.tree_check.specs.Count.{count_of}
 use Rattle.tree_check.specs.Answer.{out, Counts, Checks}
 use Rattle.laws.specs.ButLive.{sound_head, sound_nodes, sound_but_live}
-use Rattle.tree_check.specs.Whole.{is_sound, Marks, Marked, Verified}
+use Rattle.tree_check.specs.Whole.{Marks, Marked, Verified}
 
 -- node 0, by its words in the store
 module _ (s : List ℕ) (long : 1024 ≤ length s) (n : ℕ) (en : n ≡ nodes_of (length s)) (len kind count root levels live : ℕ)
@@ -151,8 +151,8 @@ module _ (s : List ℕ) where
   unfolding sound_but_live
   head-yes e = rw e
 
-  pub bad-head : (b : Bool) → b ≡ sound_head s → b ≡ false → (seen : List ℕ) → Verified s Checked.Unsound seen
-  unfolding is_sound Counts Marked
+  pub bad-head : (b : Bool) → b ≡ sound_head s → b ≡ false → (seen : List ℕ) → Verified s None seen
+  unfolding Counts Marked
   bad-head b e f seen = record { answer = head-no (sym e ∙ f); counts = tt; marks = tt }
 
   pub root-tree : 1024 ≤ length s → (root levels : ℕ) → root ≡ u16 s 6 → levels ≡ u16 s 8 → tree_at levels s root ≡ tree_of s
@@ -172,12 +172,12 @@ module _ (s : List ℕ) where
       turn false b c = refl
 
   -- an answer of the walk, read
-  from_out : (r : Checked) (seen M : List ℕ) (b : Bool) → out r seen ≡ cond b (some M) none → is_sound r ≡ b
-  unfolding out is_sound
-  from_out Checked.Unsound seen M true e = let z : ◌≡◌ {A = ℕ} 0 1 = cc in absurd (omega arith)
-  from_out Checked.Unsound seen M false e = refl
-  from_out (Checked.Sound t) seen M true e = refl
-  from_out (Checked.Sound t) seen M false e = let z : ◌≡◌ {A = ℕ} 0 1 = cc in absurd (omega arith)
+  from_out : (r : Checked) (seen M : List ℕ) (b : Bool) → out r seen ≡ cond b (some M) none → is_some r ≡ b
+  unfolding out
+  from_out None seen M true e = let z : ◌≡◌ {A = ℕ} 0 1 = cc in absurd (omega arith)
+  from_out None seen M false e = refl
+  from_out (Some t) seen M true e = refl
+  from_out (Some t) seen M false e = let z : ◌≡◌ {A = ℕ} 0 1 = cc in absurd (omega arith)
 
   range-of : sound_nodes s ≡ true → in_range (nodes_of (length s)) (numbers (tree_of s)) ≡ true
   unfolding sound_nodes
@@ -206,8 +206,8 @@ module _ (s : List ℕ) where
 
   marks-of : (r : Checked) (seen : List ℕ) (m : ℕ) → nodes_of (length s) ≤ m → out r seen ≡ cond (sound_nodes s) (some (mark_all (blank m) (numbers (tree_of s)))) none → Marked s seen r
   unfolding out Marked
-  marks-of Checked.Unsound seen m h e = tt
-  marks-of (Checked.Sound t) seen m h e = marks-at seen m h e
+  marks-of None seen m h e = tt
+  marks-of (Some t) seen m h e = marks-at seen m h e
 
   pub from-root : 1024 ≤ length s → (b : Bool) → b ≡ sound_head s → b ≡ true → (m : ℕ) → nodes_of (length s) ≤ m → (blanks : List ℕ) → blanks ≡ blank m
       → (root levels : ℕ) → root ≡ u16 s 6 → levels ≡ u16 s 8 → (begun : Shape) → shape_is begun ≡ fresh → (r : Checked) (seen : List ℕ)

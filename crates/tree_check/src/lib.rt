@@ -1,35 +1,30 @@
 // Question 2 but for the live count: one marking walk over the tree, in which the check of a node and that of its children call each other. It reads
-// any store of at least one node, and counts pairs and messages. Relies on header and node_check for what one node holds, lent (what a list of
-// children is lent), node (the cursor), path and octets.
+// any store of at least one node, and counts pairs and messages. Relies on header and node_check for what one node holds, node (its entries), path
+// and octets.
 
 #![tactic(auto)]
 
 pub mod header;
-pub mod lent;
 pub mod marks;
 pub mod node_check;
 
-ghost use Rattle.std.specs.Prelude.{◌≡◌, cond, List, ℕ, ◌≤◌, length};
+ghost use Rattle.std.specs.Prelude.{◌≡◌, cond, List, ℕ, ◌≤◌, length, MatchOption};
 ghost use Rattle.image.specs.Prelude.{none, some};
+ghost use Rattle.image.specs.Entry.{entries_of};
 ghost use Rattle.image.specs.Image.{nodes_of, tree_at};
 ghost use Rattle.laws.specs.Reading.SoundHere.{sound_here};
-ghost use Rattle.laws.specs.Reading.Visit.{visit, blank};
-ghost use Rattle.node.specs.Entries.{entries_from, listed};
-ghost use Rattle.node.specs.Places.{Within, part};
+ghost use Rattle.laws.specs.Reading.Visit.{visit};
+ghost use Rattle.node.specs.Entries.{list_of};
 ghost use Rattle.path.specs.Fed.{shape_is};
 ghost use Rattle.tree_check.specs.Node.Inside.{messages_run, child_run, branches_run};
-ghost use Rattle.tree_check.specs.Count.{tally_sum, count_of, only_messages, last_count, branches_count};
-ghost use Rattle.tree_check.specs.Answer.{Checks, with_rest};
-ghost use Rattle.tree_check.specs.Held.{parent_is, Adds};
-ghost use Rattle.tree_check.specs.Walk.{node_run, last_run};
-ghost use Rattle.tree_check.specs.First.{FirstAs};
+ghost use Rattle.tree_check.specs.Count.{plus, tally_sum, count_of, only_messages, only_node, branches_count};
+ghost use Rattle.tree_check.specs.Answer.{Checks};
+ghost use Rattle.tree_check.specs.Walk.{node_run};
+ghost use Rattle.tree_check.specs.First.{Childless, Begins, NoFirst, FirstOf};
 ghost use Rattle.node.specs.Whole.{HasNode};
 ghost use Rattle.tree_check.specs.Whole.{Verified};
 
-use lent::Parent;
-use node::search::Branch;
-use node::{Cursor, Place, Step};
-use node_check::Counted;
+use node::entries::{Entries, Entry, read_entry};
 use path::Shape;
 
 // What a sound tree holds, each number shown up to 65,535.
@@ -40,112 +35,90 @@ pub struct Tally {
     pub nodes: usize,
 }
 
-#[derive(Clone, Copy)]
-pub enum Checked {
-    Unsound,
-    Sound(Tally),
-}
-
-// The first child of an interior node: its number, its pivot, and the cursor past it.
-#[derive(Clone, Copy)]
-pub enum First {
-    Child(usize, Place, Cursor),
-    Nothing,
-}
-
-pub fn joined(a: Tally, b: Tally) -> Tally
-    ensures { result ≡ tally_sum a b }
-{
-    let pairs = octets::capped_sum(a.pairs, b.pairs);
-    let messages = octets::capped_sum(a.messages, b.messages);
-    let nodes = octets::capped_sum(a.nodes, b.nodes);
-    Tally {
-        pairs,
-        messages,
-        nodes,
+impl Tally {
+    // What two parts of a tree hold.
+    pub fn joined(self, more: Tally) -> Tally
+        ensures { result ≡ tally_sum self more }
+    {
+        Tally {
+            pairs: octets::capped_sum(self.pairs, more.pairs),
+            messages: octets::capped_sum(self.messages, more.messages),
+            nodes: octets::capped_sum(self.nodes, more.nodes),
+        }
     }
 }
 
-// What was found sound, with the answer for the rest.
-pub fn with_rest(held: Tally, rest: Checked) -> Checked
-    ensures { result ≡ with_rest held rest }
-{
-    let Checked::Sound(t) = rest else {
-        return Checked::Unsound;
-    };
-    Checked::Sound(joined(held, t))
-}
-
 // Whether a node of the store is a sound leaf, and how many pairs it holds.
-pub fn check_leaf(store: &[u8], num: usize, lo: &[u8], hi: &[u8], sh: Shape) -> Checked
+pub fn check_leaf(store: &[u8], num: usize, lo: &[u8], hi: &[u8], sh: Shape) -> Option<Tally>
     requires { HasNode store.now num }
     ensures { (seen : List ℕ) → Checks
         (cond (sound_here (tree_at 1 store.now num) (shape_is sh) lo.now hi.now) (some seen) none)
         (count_of (tree_at 1 store.now num)) result seen }
 {
     if !header::laid_out(store, num, 1, 1) {
-        return Checked::Unsound;
+        return None;
     }
-    let c = node::entries_of(store, num);
-    let Counted::All(pairs) = node_check::check_leaf(store, c.at, c.end, lo, hi, sh) else {
-        return Checked::Unsound;
-    };
-    Checked::Sound(Tally {
+    let entries = Entries::of_node(store, num);
+    let pairs = node_check::check_leaf(entries.rest, lo, hi, sh)?;
+    Some(Tally {
         pairs,
         messages: 0,
         nodes: 1,
     })
 }
 
-// The first child of an interior node of the store, if its pivot is the node's low one.
-pub fn first_child(store: &[u8], num: usize, level: usize, lo: &[u8]) -> First
-    requires { HasNode store.now num }
-    ensures { FirstAs store.now num level lo.now result }
+// The child that bytes begin with: its number, its pivot, and the bytes behind it.
+pub fn read_child(bytes: &[u8]) -> Option<(usize, &[u8], &[u8])>
+    ensures { MatchOption result (Childless bytes.now) (λ p. Begins bytes.now p.0 p.1.now p.2.now) }
 {
-    if !header::laid_out(store, num, 2, level) {
-        return First::Nothing;
-    }
-    let c = node::entries_of(store, num);
-    let Step::Read(e, next) = c.step(store) else {
-        return First::Nothing;
+    let (entry, behind) = read_entry(bytes)?;
+    let Entry::Child(child, pivot) = entry else {
+        return None;
     };
-    let Branch::Of(child, p) = node::search::branch_of(e) else {
-        return First::Nothing;
-    };
-    let a = p.start;
-    let b = p.stop;
-    if !octets::equal(&store[a..b], lo) {
-        return First::Nothing;
-    }
-    First::Child(child, p, next)
+    Some((child, pivot, behind))
 }
 
-// Whether the entries from a place up to another are sound messages, and how many.
-pub fn check_messages(s: &[u8], from: usize, end: usize, lo: &[u8], hi: &[u8], sh: Shape) -> Checked
-    requires { end ≤ length s.now }
-    ensures { (seen : List ℕ) → Checks
-        (cond (messages_run (shape_is sh) lo.now hi.now (entries_from s.now from end)) (some seen) none)
-        (only_messages (length (listed s.now from end))) result seen }
+// The first child of an interior node of the store, if its pivot is the node's low one, and the entries behind it.
+pub fn first_child<'a>(store: &'a [u8], num: usize, level: usize, lo: &[u8]) -> Option<(usize, &'a [u8])>
+    requires { HasNode store.now num }
+    ensures { MatchOption result (NoFirst store.now num level lo.now) (λ p. FirstOf store.now num level lo.now p.0 p.1.now) }
 {
-    let Counted::All(messages) = node_check::check_messages(s, from, end, lo, hi, sh) else {
-        return Checked::Unsound;
-    };
-    Checked::Sound(Tally {
+    if !header::laid_out(store, num, 2, level) {
+        return None;
+    }
+    let entries = Entries::of_node(store, num);
+    let (child, pivot, behind) = read_child(entries.rest)?;
+    if !octets::equal(pivot, lo) {
+        return None;
+    }
+    Some((child, behind))
+}
+
+// Whether bytes are sound messages, and how many.
+pub fn check_messages(entries: &[u8], lo: &[u8], hi: &[u8], sh: Shape) -> Option<Tally>
+    ensures { (seen : List ℕ) → Checks
+        (cond (messages_run (shape_is sh) lo.now hi.now (entries_of entries.now)) (some seen) none)
+        (only_messages (length (list_of entries.now))) result seen }
+{
+    let messages = node_check::check_messages(entries, lo, hi, sh)?;
+    Some(Tally {
         pairs: 0,
         messages,
         nodes: 0,
     })
 }
 
-// A child in the list of its parent: its number, and where the entry after it starts.
+// What the children of a node share: their level, the node's own pivots, and the shape of what it lifts.
 #[derive(Clone, Copy)]
-pub struct ChildAt {
-    pub num: usize,
-    pub next: usize,
+pub struct Parent<'a> {
+    pub level: usize,
+    pub low: &'a [u8],
+    pub high: &'a [u8],
+    pub shape: Shape,
 }
 
 // The tree under the node `num`, which is to be of this level. Its pivots are without what it lifts, of which the shape tells.
-#[cycle(check_child_check_children_check_last_check_node)]
+#[cycle(check_node_check_children_check_child)]
 pub fn check_node(
     store: &[u8],
     num: usize,
@@ -154,171 +127,96 @@ pub fn check_node(
     hi: &[u8],
     sh: Shape,
     seen: &mut [u8; 1024],
-) -> Checked
+) -> Option<Tally>
     requires { nodes_of (length store.now) ≤ 1024 }
     ensures { Checks
         (visit (tree_at level store.now num) (nodes_of (length store.now)) (shape_is sh) lo.now hi.now
         seen.old) (count_of (tree_at level store.now num)) result seen.new }
 {
     if num < 1 {
-        return Checked::Unsound;
+        return None;
     }
     if header::node_count(store) <= num {
-        return Checked::Unsound;
+        return None;
     }
     if level < 1 {
-        return Checked::Unsound;
+        return None;
     }
     if seen[num] != 0 {
-        return Checked::Unsound;
+        return None;
     }
     seen[num] = 1;
     if level == 1 {
         return check_leaf(store, num, lo, hi, sh);
     }
-    let First::Child(child, p, next) = first_child(store, num, level, lo) else {
-        return Checked::Unsound;
-    };
+    let (first, behind) = first_child(store, num, level, lo)?;
     let parent = Parent {
         level: level - 1,
-        end: next.end,
-        low: p,
+        low: lo,
+        high: hi,
         shape: sh,
     };
-    let flat = lent::flattened(parent);
-    let first = ChildAt {
-        num: child,
-        next: next.at,
-    };
-    let mut held = [0usize, 0usize, 1usize];
-    if !check_children(&store, first, p, &hi, &flat, seen, &mut held) {
-        return Checked::Unsound;
-    }
-    Checked::Sound(lent::tally_of(&held))
+    check_children(store, first, behind, parent, seen)
 }
 
-// The child `first` with the low pivot `low`, and the entries of its parent that follow it: whether all are sound. What they hold is added to
-// `held`. The call for the rest of the list is the last thing done, all that it is lent is lent by thin references, and each struct that it is
-// given has two numbers: so the compiler makes a jump of it, and the stack holds one frame for each level.
-#[cycle(check_child_check_children_check_last_check_node)]
+// The children of a node, of which `first` has the node's own low pivot and the others stand in front of its messages, and the messages.
+#[cycle(check_node_check_children_check_child)]
 pub fn check_children(
-    store: &&[u8],
-    first: ChildAt,
-    low: Place,
-    hi: &&[u8],
-    flat: &[usize; 8],
-    seen: &mut [u8; 1024],
-    held: &mut [usize; 3],
-) -> bool
-    requires { (nodes_of (length store.now.now) ≤ 1024)
-        × ((parent_is flat.now).end ≤ length store.now.now)
-        × Within 0 (length store.now.now) low
-        × Within 0 (length store.now.now) (parent_is flat.now).low }
-    ensures { Adds
-        (branches_run (node_run (parent_is flat.now).level store.now.now) (shape_is (parent_is flat.now).shape)
-        (part store.now.now (parent_is flat.now).low) hi.now.now first.num
-        (part store.now.now low) (entries_from store.now.now first.next (parent_is flat.now).end)
-        seen.old)
-        (branches_count (tree_at (parent_is flat.now).level store.now.now) first.num
-        (listed store.now.now first.next (parent_is flat.now).end)) held.old
-        result held.new seen.new }
-{
-    let image = *store;
-    let parent = lent::parent_of(flat);
-    let num = first.num;
-    let rest = Cursor {
-        at: first.next,
-        end: parent.end,
-    };
-    let a = low.start;
-    let b = low.stop;
-    if rest.end <= rest.at {
-        let last = check_last(image, num, &image[a..b], rest, parent, *hi, seen);
-        return lent::hold(held, last);
-    }
-    let Step::Read(e, next) = rest.step(image) else {
-        return false;
-    };
-    let Branch::Of(child, p) = node::search::branch_of(e) else {
-        let last = check_last(image, num, &image[a..b], rest, parent, *hi, seen);
-        return lent::hold(held, last);
-    };
-    let x = p.start;
-    let y = p.stop;
-    let one = check_child(image, num, &image[a..b], &image[x..y], parent, *hi, seen);
-    if !lent::hold(held, one) {
-        return false;
-    }
-    let second = ChildAt {
-        num: child,
-        next: next.at,
-    };
-    check_children(store, second, p, hi, flat, seen, held)
-}
-
-// The last child, `num` with the low pivot `low`, which ends at its parent's high pivot; and the messages of the parent from the cursor on, of
-// which there may be none.
-#[cycle(check_child_check_children_check_last_check_node)]
-pub fn check_last(
     store: &[u8],
-    num: usize,
-    low: &[u8],
-    rest: Cursor,
+    first: usize,
+    entries: &[u8],
     parent: Parent,
-    hi: &[u8],
     seen: &mut [u8; 1024],
-) -> Checked
-    requires { (nodes_of (length store.now) ≤ 1024)
-        × (rest.end ≤ length store.now)
-        × Within 0 (length store.now) parent.low }
+) -> Option<Tally>
+    requires { nodes_of (length store.now) ≤ 1024 }
     ensures { Checks
-        (last_run (node_run parent.level store.now) (shape_is parent.shape) (part store.now parent.low) hi.now
-        num low.now (entries_from store.now rest.at rest.end) seen.old)
-        (last_count (tree_at parent.level store.now) num (listed store.now rest.at rest.end)) result
+        (branches_run (node_run parent.entry.level store.now) (shape_is parent.entry.shape) parent.entry.low.now parent.entry.high.now first
+        parent.entry.low.now (entries_of entries.now) seen.old)
+        (plus only_node (branches_count (tree_at parent.entry.level store.now) first (list_of entries.now))) result
         seen.new }
 {
-    let one = check_child(store, num, low, hi, parent, hi, seen);
-    let Checked::Sound(t) = one else {
-        return Checked::Unsound;
+    let mut child = first;
+    let mut low = parent.low;
+    let mut rest = entries;
+    let mut held = Tally {
+        pairs: 0,
+        messages: 0,
+        nodes: 1,
     };
-    let own = parent.low;
-    let a = own.start;
-    let b = own.stop;
-    let shape = parent.shape;
-    with_rest(
-        t,
-        check_messages(store, rest.at, rest.end, &store[a..b], hi, shape),
-    )
+    while let Some((next, pivot, behind)) = read_child(rest) {
+        held = held.joined(check_child(store, child, low, pivot, parent, seen)?);
+        child = next;
+        low = pivot;
+        rest = behind;
+    }
+    held = held.joined(check_child(store, child, low, parent.high, parent, seen)?);
+    let waiting = check_messages(rest, parent.low, parent.high, parent.shape)?;
+    Some(held.joined(waiting))
 }
 
-// The child `num` between two pivots of its parent, whose own high pivot is `hi`.
-#[cycle(check_child_check_children_check_last_check_node)]
+// The child `num` between two pivots of its parent.
+#[cycle(check_node_check_children_check_child)]
 pub fn check_child(
     store: &[u8],
     num: usize,
     low: &[u8],
     high: &[u8],
     parent: Parent,
-    hi: &[u8],
     seen: &mut [u8; 1024],
-) -> Checked
-    requires { (nodes_of (length store.now) ≤ 1024) × Within 0 (length store.now) parent.low }
+) -> Option<Tally>
+    requires { nodes_of (length store.now) ≤ 1024 }
     ensures { Checks
-        (child_run (node_run parent.level store.now) (shape_is parent.shape) (part store.now parent.low) hi.now num
-        low.now high.now seen.old) (count_of (tree_at parent.level store.now num)) result seen.new }
+        (child_run (node_run parent.entry.level store.now) (shape_is parent.entry.shape) parent.entry.low.now parent.entry.high.now num
+        low.now high.now seen.old) (count_of (tree_at parent.entry.level store.now num)) result seen.new }
 {
-    let own = parent.low;
-    let a = own.start;
-    let b = own.stop;
-    if !octets::owned(&store[a..b], hi, low) {
-        return Checked::Unsound;
+    if !octets::owned(parent.low, parent.high, low) {
+        return None;
     }
     if !octets::precedes(low, high) {
-        return Checked::Unsound;
+        return None;
     }
     let k = octets::common_length(low, high);
-    let shape = parent.shape;
-    let deeper = path::feed(shape, &low[0..k]);
+    let deeper = path::feed(parent.shape, &low[..k]);
     check_node(
         store,
         num,
@@ -330,35 +228,23 @@ pub fn check_child(
     )
 }
 
-// Sets every byte to zero.
-pub fn clear(seen: &mut [u8])
-    ensures { seen.new ≡ blank (length seen.old) }
-{
-    let mut i = 0;
-    while i < seen.len() {
-        seen[i] = 0;
-        i += 1;
-    }
-}
-
 // The check of a store: node 0, and the tree from the root. After a sound answer `seen` has 1 for each node that is reached, and 0 for the others.
-pub fn check_tree(store: &[u8], seen: &mut [u8; 1024]) -> Checked
+pub fn check_tree(store: &[u8], seen: &mut [u8; 1024]) -> Option<Tally>
     requires { (1024 ≤ length store.now) × (nodes_of (length store.now) ≤ 1024) }
     ensures { Verified store.now result seen.new }
 {
     if !header::header_good(store) {
-        return Checked::Unsound;
+        return None;
     }
-    clear(seen);
+    seen.fill(0);
     let root = node::header::read_root(store);
     let levels = node::header::read_levels(store);
-    let highest = [255u8; 1];
     check_node(
         store,
         root,
         levels,
-        &store[0..0],
-        &highest,
+        &[],
+        &[255],
         path::start(),
         seen,
     )

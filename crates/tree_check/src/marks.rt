@@ -1,7 +1,7 @@
 // The nodes in use of a store that is known to be sound, marked by a walk that reads interior nodes only: a leaf is marked by its parent's
 // entry, and nothing is judged again. The walk tells too whether a message waits anywhere.
-// Relies on node (the cursor over a node's entries) and on laws/Reading (`usable`: what a reader of a sound store may rely on).
-ghost use Rattle.std.specs.Prelude.{◌≡◌, true, ◌&&◌, ◌≤◌, length};
+// Relies on node (a node's entries) and on laws/Reading (`usable`: what a reader of a sound store may rely on).
+ghost use Rattle.std.specs.Prelude.{◌≡◌, true, ◌≤◌, length};
 ghost use Rattle.image.specs.Image.{whole_nodes, nodes_of, tree_at};
 ghost use Rattle.image.specs.Sound.{sound};
 ghost use Rattle.image.specs.Upkeep.{settled};
@@ -9,17 +9,7 @@ ghost use Rattle.laws.specs.Reading.Relative.{usable};
 ghost use Rattle.tree_check.specs.Whole.{Marks};
 ghost use Rattle.tree_check.specs.MarkSteps.{MarksTree};
 
-use node::Step;
-use node::search::Branch;
-
-fn both(a: bool, b: bool) -> bool
-    ensures { result ≡ (a && b) }
-{
-    if a {
-        return b;
-    }
-    false
-}
+use node::entries::{Entries, Entry};
 
 // Marks the nodes of the tree under the node `num` of this level. Whether no message waits in any of them: those of a node follow its
 // children, so that the first one ends the walk over its entries.
@@ -31,18 +21,14 @@ fn mark_tree(store: &[u8], num: usize, level: usize, seen: &mut [u8; 1024]) -> b
     if level <= 1 {
         return true;
     }
-    let mut c = node::entries_of(store, num);
     let mut quiet = true;
-    loop {
-        let Step::Read(e, next) = c.step(store) else {
-            return quiet;
-        };
-        let Branch::Of(child, _) = node::search::branch_of(e) else {
+    for entry in Entries::of_node(store, num) {
+        let Entry::Child(child, _) = entry else {
             return false;
         };
-        quiet = both(quiet, mark_tree(store, child, level - 1, seen));
-        c = next;
+        quiet &= mark_tree(store, child, level - 1, seen);
     }
+    quiet
 }
 
 // Marks the nodes in use of a sound store: 1 for each node that the tree reaches, 0 for the others. Whether the store is settled.
@@ -50,7 +36,7 @@ pub fn mark_nodes(store: &[u8], seen: &mut [u8; 1024]) -> bool
     requires { (whole_nodes (length store.now) ≡ true) × (sound store.now ≡ true) }
     ensures { Marks store.now seen.new × (result ≡ settled store.now) }
 {
-    crate::clear(seen);
+    seen.fill(0);
     let root = node::header::read_root(store);
     let levels = node::header::read_levels(store);
     mark_tree(store, root, levels, seen)

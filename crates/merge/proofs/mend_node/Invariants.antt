@@ -4,8 +4,8 @@ use Rattle.std.specs.Prelude.{length, ◌≡◌}
 use Rattle.merge.specs.Laws.Mended.{Mendable, SoFar, branches_left}
 use Rattle.merge.proofs.mend_node.Given as goal
 
-abbrev pub invariant-loop-num : goal.invariant-loop-num
-invariant-loop-num l = Mendable l.store l.num l.hi × SoFar l.initial.store l.num l.store × (length l.store ≡ length l.initial.store)
+abbrev pub invariant-loop : goal.invariant-loop
+invariant-loop l = Mendable l.store l.num l.high × SoFar l.initial.store l.num l.store × (length l.store ≡ length l.initial.store)
 
-abbrev pub decreases-loop-num : goal.decreases-loop-num
-decreases-loop-num l = branches_left l.store l.num
+abbrev pub decreases-loop : goal.decreases-loop
+decreases-loop l = branches_left l.store l.num

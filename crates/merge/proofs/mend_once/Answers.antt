@@ -1,30 +1,33 @@
--- `mend_once` meets its contract: the copy of the node lists the node's entries.
--- Relies on specs/NodeSteps.
+-- `mend_once` meets its contract: the copy of the node lists the node's entries. Relies on specs/NodeSteps.
 use Rattle.image.specs.Prelude.{arith}
-use Rattle.laws.specs.Page.{zeros_of}
-use Rattle.merge.specs.Laws.Mended.{node-inside}
-use Rattle.merge.specs.NodeSteps.{room, once-done}
+use Rattle.merge.specs.Laws.Mended.{node-inside, node-short}
+use Rattle.push.specs.NodeSteps.{copy-size, copy-count}
+use Rattle.merge.specs.NodeSteps.{room, children-fit, once-done}
 use Rattle.merge.proofs.mend_once.Goals as goal
 
-pub overflow_mul-at : goal.overflow_mul-at
-overflow_mul-at c = let i = node-inside c.args.store.now c.args.num c.args.hi.now c.requires in omega arith
-
-pub read_length-len-requires : goal.read_length-len-requires
-read_length-len-requires c = let i = node-inside c.args.store.now c.args.num c.args.hi.now c.requires in omega arith
+pub overflow_mul-num : goal.overflow_mul-num
+overflow_mul-num c = let i = node-inside _ _ _ c.requires in omega arith
 
 pub read_level-level-requires : goal.read_level-level-requires
-read_level-level-requires c = let i = node-inside c.args.store.now c.args.num c.args.hi.now c.requires in omega arith
+read_level-level-requires c = let i = node-inside _ _ _ c.requires in omega arith
 
-pub overflow_add-end : goal.overflow_add-end
-overflow_add-end c = let i = node-inside c.args.store.now c.args.num c.args.hi.now c.requires in omega arith
+pub copy_node-node-requires : goal.copy_node-node-requires
+copy_node-node-requires c = node-inside _ _ _ c.requires
 
-pub slice_bounds-copy_at-end-2 : goal.slice_bounds-copy_at-end-2
-slice_bounds-copy_at-end-2 c = let i = node-inside c.args.store.now c.args.num c.args.hi.now c.requires in omega arith
+pub of_node-entries-requires : goal.of_node-entries-requires
+of_node-entries-requires c =
+    let z = copy-size _ _ (node-inside _ _ _ c.requires) _ c.copy_node-node.ensures in
+    let n = copy-count _ _ (node-inside _ _ _ c.requires) _ c.copy_node-node.ensures in
+    let h = node-short _ _ _ c.requires in
+    (omega arith, omega arith)
 
 pub join_first-requires : goal.join_first-requires
-unfolding zeros_of
-join_first-requires c = room c.args.store.now c.args.num c.args.hi.now c.requires _ _ c.read_length-len.ensures.0 c.read_level-level.ensures.1 _ c.copy_at.ensures
+join_first-requires c = (
+  room _ _ _ c.requires _ c.copy_node-node.ensures _ c.of_node-entries.ensures.lists _ c.read_level-level.ensures.1,
+  children-fit _ _ _ c.requires _ c.copy_node-node.ensures _ c.of_node-entries.ensures.lists _ c.among.ensures.pending,
+)
 
 pub returns : goal.returns
-unfolding zeros_of
-returns c = once-done c.args.store.now c.args.num c.args.hi.now c.requires c.read_length-len.result c.read_level-level.result c.read_length-len.ensures.0 c.read_level-level.ensures.1 _ c.copy_at.ensures c.read_level-level.ensures.0 _ _ c.join_first.ensures.0 c.join_first.ensures.1
+returns c =
+    once-done _ _ _ c.requires _ c.copy_node-node.ensures _ c.of_node-entries.ensures.lists _ c.among.ensures.pending _ c.among.ensures.high _ c.read_level-level.ensures.0 _ _
+    c.join_first.ensures.0 c.join_first.ensures.1

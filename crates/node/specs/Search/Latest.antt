@@ -1,6 +1,6 @@
 -- The newest message of a node on a rest, found entry by entry; and whether an entry says anything of it.
 use Rattle.std.specs.Prelude.{ℕ, ◌≡◌, refl, List, [], ◌∷◌, Bool, true, false, cond}
-use Rattle.image.specs.Prelude.{sym, ap, subst, ◌∙◌, true≢false, Option, none, some}
+use Rattle.image.specs.Prelude.{sym, ap, subst, ◌∙◌, Option, none, some}
 use Rattle.image.specs.Bytes.{same, begins}
 use Rattle.image.specs.Entry as defined
 use Rattle.image.specs.Meaning.{Said, nothing, says, says_of, newer}
@@ -122,8 +122,3 @@ module _ (s rest : List ℕ) (e : Entry) where
   pub message-on : (b : Bool) (m : Message) → e ≡ Entry.Message m → b ≡ covers (says_of (message_in s m) rest) → b ≡ covers (entry_says (entry_in s e) rest)
   unfolding entry_says
   message-on b m q h = rw q h
-
-quiet : (x : Said) → covers x ≡ false → x ≡ nothing
-unfolding covers
-quiet nothing g = refl
-quiet (says v) g = absurd (true≢false g)

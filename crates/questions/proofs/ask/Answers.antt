@@ -2,7 +2,7 @@
 -- Assumes nothing.
 use Rattle.std.proofs.Common.{ap, not}
 use Rattle.image.specs.Prelude.{arith, sym, ◌∙◌, not-false}
-use Rattle.questions.specs.Steps.{ragged-store, short-work, unsound-store, sound-store}
+use Rattle.questions.specs.Steps.{ragged-store, short-work, judged-store}
 use Rattle.questions.proofs.ask.Goals as goal
 
 pub returns-then-not-whole_nodes : goal.returns-then-not-whole_nodes
@@ -11,11 +11,8 @@ returns-then-not-whole_nodes c = ragged-store _ _ _ _ c.whole_nodes.ensures c.if
 pub returns-then-work-store : goal.returns-then-work-store
 returns-then-work-store c = short-work _ _ _ (omega arith)
 
-pub judge-c-requires : goal.judge-c-requires
-judge-c-requires c = sym c.whole_nodes.ensures ∙ not-false _ (ap not c.if-not-whole_nodes.false)
-
-pub returns-in_default : goal.returns-in_default
-returns-in_default c = unsound-store _ _ _ _ c.whole_nodes.ensures c.if-not-whole_nodes.false (omega arith) _ c.judge-c.ensures c.in_default.is
+pub judge-requires : goal.judge-requires
+judge-requires c = sym c.whole_nodes.ensures ∙ not-false _ (ap not c.if-not-whole_nodes.false)
 
 pub returns : goal.returns
-returns c = sound-store _ _ _ _ c.whole_nodes.ensures c.if-not-whole_nodes.false (omega arith) _ c.judge-c.ensures _ c.in-Sound.is
+returns c = judged-store _ _ _ _ c.whole_nodes.ensures c.if-not-whole_nodes.false (omega arith) _ c.judge.ensures _ c.ok_or.ensures.value

@@ -1,22 +1,16 @@
 -- A leaf whose keys rise is sound if its first key is not below the low pivot and its last key below the high one: the walk that asks no more.
 -- Relies on Leaf, whose walk asks of every key whether the leaf owns it, and on the order of strings.
-use Rattle.std.specs.Prelude.{ℕ, ◌-◌, ◌<◌, ◌≤◌, ◌≡◌, refl, List, [], ◌∷◌, Bool, true, false, ◌&&◌, not, length}
-use Rattle.image.specs.Prelude.{sym, ap, ◌∙◌, and-true, Option, none, some, arith, le-leb, lt-leb}
+use Rattle.std.specs.Prelude.{ℕ, ◌<◌, ◌≡◌, refl, List, [], ◌∷◌, Bool, true, false, ◌&&◌, not, length}
+use Rattle.std.specs.Borrow.{Bor}
+use Rattle.image.specs.Prelude.{sym, ap, ◌∙◌, and-true, Option, none, some, arith}
 use Rattle.image.specs.Bytes.{before}
-use Rattle.image.specs.Path.{owns, value_fits, value_limit}
+use Rattle.image.specs.Path.{owns, value_fits}
 use Rattle.image.specs.Entry as defined
 use Rattle.octets.specs.Order.{not_so, before-trans, refuted, and-false}
 use Rattle.path.specs.Shape as machine
-use Rattle.node.specs.Cut.{cut-length}
-use Rattle.node.specs.Entries.{entries_from}
-use Rattle.node.specs.Places.{part, entry_in, Within}
-use Rattle.node.specs.declared.Place.{Place}
-use Rattle.node.specs.declared.Entry.{Entry}
-use Rattle.node.specs.declared.search.Pair.{Pair}
-use Rattle.node.specs.Search.Pairs.{pair_is}
-use Rattle.node.specs.Search.PairSteps.{Unpaired, unread, unlike}
-use Rattle.tree_check.specs.declared.node_check.Prev.{Prev}
-use Rattle.tree_check.specs.Node.Leaf.{prev_in, follows, row_here, leaf_list, leaf_run}
+use Rattle.node.specs.Lent.{entry_is, Unread, Leads}
+use Rattle.node.specs.declared.entries.Entry.{Entry}
+use Rattle.tree_check.specs.Node.Leaf.{follows, row_here, leaf_list, leaf_run}
 
 unfoldable pub after : List ℕ → Option (List ℕ) → List ℕ → Bool
 after lo none k = not (before k lo)
@@ -141,7 +135,7 @@ module _ (sh : machine.Shape) (lo hi : List ℕ) where
   walk_is none = refl
   walk_is (some es) = list_all es
 
--- the walk
+-- the walk over what is left of a leaf's bytes, entry by entry
 module _ (sh : machine.Shape) (lo hi : List ℕ) where
   run-pair : (prev : Option (List ℕ)) (k v : List ℕ) (y : Option (List defined.Entry))
       → walk_run sh lo hi prev (defined.entry_then (some (defined.pair k v)) y) ≡ row_next sh lo prev k v && walk_run sh lo hi (some k) y
@@ -149,91 +143,39 @@ module _ (sh : machine.Shape) (lo hi : List ℕ) where
   run-pair prev k v none = sym (and-false (row_next sh lo prev k v))
   run-pair prev k v (some es) = refl
 
-  run-other : (prev : Option (List ℕ)) (e : Entry) (s : List ℕ) (y : Option (List defined.Entry)) → pair_is e ≡ Pair.Other → walk_run sh lo hi prev (defined.entry_then (some (entry_in s e)) y) ≡ false
-  unfolding walk_run walk_list defined.entry_then pair_is
-  run-other prev (Entry.Pair p v) s y h = let z : ◌≡◌ {A = ℕ} 0 1 = cc in absurd (omega arith)
-  run-other prev (Entry.Child i p) s none h = refl
-  run-other prev (Entry.Child i p) s (some es) h = refl
-  run-other prev (Entry.Message m) s none h = refl
-  run-other prev (Entry.Message m) s (some es) h = refl
+  run-other : (prev : Option (List ℕ)) (e : Entry) (y : Option (List defined.Entry)) → ((k v : Bor (List ℕ)) → e ≡ Entry.Pair k v → ⊥)
+      → walk_run sh lo hi prev (defined.entry_then (some (entry_is e)) y) ≡ false
+  unfolding walk_run walk_list defined.entry_then
+  run-other prev (Entry.Pair k v) y h = absurd (h k v refl)
+  run-other prev (Entry.Child i k) none h = refl
+  run-other prev (Entry.Child i k) (some es) h = refl
+  run-other prev (Entry.Message m) none h = refl
+  run-other prev (Entry.Message m) (some es) h = refl
 
-  leaf-bad : (prev : Option (List ℕ)) (x : Option (List defined.Entry)) (answer : Bool) → x ≡ none → walk_run sh lo hi prev x ≡ answer → false ≡ answer
+  pub leaf-unread : (prev : Option (List ℕ)) (b : List ℕ) (answer : Bool) → (length b ≡ 0 → ⊥) → Unread b → walk_run sh lo hi prev (defined.entries_of b) ≡ answer → false ≡ answer
   unfolding walk_run
-  leaf-bad prev x answer q inv = rw q at inv
+  leaf-unread prev [] answer h u inv = absurd (h refl)
+  leaf-unread prev (c ∷ b) answer h u inv = rw (u.first (omega arith)) at inv
 
-  leaf-end : (prev : Option (List ℕ)) (x : Option (List defined.Entry)) (answer b : Bool) → x ≡ some [] → b ≡ closes hi prev → walk_run sh lo hi prev x ≡ answer → b ≡ answer
-  unfolding walk_run walk_list
-  leaf-end prev x answer b q h inv = h ∙ (rw q at inv)
+  pub leaf-over : (prev : Option (List ℕ)) (b : List ℕ) (answer x v : Bool) → length b ≡ 0 → x ≡ closes hi prev → x ≡ v
+      → walk_run sh lo hi prev (defined.entries_of b) ≡ answer → v ≡ answer
+  leaf-over prev [] answer x v h e f inv = sym f ∙ e ∙ (unfold walk_run walk_list defined.entries_of defined.read_all in inv)
+  leaf-over prev (c ∷ b) answer x v h e f inv = absurd (omega arith)
 
-  pub leaf-over : (prev : Option (List ℕ)) (x : Option (List defined.Entry)) (answer b v : Bool) → x ≡ some [] → b ≡ closes hi prev → b ≡ v → walk_run sh lo hi prev x ≡ answer → v ≡ answer
-  leaf-over prev x answer b v q h e inv = sym e ∙ leaf-end prev x answer b q h inv
+  module _ (prev : Option (List ℕ)) (b r : List ℕ) (e : Entry) (l : Leads b e r) (answer : Bool) (inv : walk_run sh lo hi prev (defined.entries_of b) ≡ answer) where
+    pub leaf-other : ((k v : Bor (List ℕ)) → e ≡ Entry.Pair k v → ⊥) → false ≡ answer
+    leaf-other h = sym (run-other prev e (defined.entries_of r) h) ∙ ap (λ o. walk_run sh lo hi prev o) (sym l.first) ∙ inv
 
-  leaf-other : (prev : Option (List ℕ)) (e : Entry) (s : List ℕ) (x y : Option (List defined.Entry)) (answer : Bool) → x ≡ defined.entry_then (some (entry_in s e)) y
-      → pair_is e ≡ Pair.Other → walk_run sh lo hi prev x ≡ answer → false ≡ answer
-  leaf-other prev e s x y answer q h inv = sym (run-other prev e s y h) ∙ ap (λ o. walk_run sh lo hi prev o) (sym q) ∙ inv
+    module _ (k v : Bor (List ℕ)) (q : e ≡ Entry.Pair k v) (x : Bool) (g : x ≡ row_next sh lo prev k.now v.now) where
+      step_is : x && walk_run sh lo hi (some k.now) (defined.entries_of r) ≡ answer
+      step_is =
+          ap (λ z. z && walk_run sh lo hi (some k.now) (defined.entries_of r)) g
+          ∙ sym (run-pair prev k.now v.now (defined.entries_of r))
+          ∙ ap (λ z. walk_run sh lo hi prev (defined.entry_then (some (entry_is z)) (defined.entries_of r))) (sym q)
+          ∙ ap (λ o. walk_run sh lo hi prev o) (sym l.first) ∙ inv
 
-  pub leaf-unpaired : (prev : Option (List ℕ)) (s : List ℕ) (at end : ℕ) (answer : Bool) → Unpaired s at end → at < end → walk_run sh lo hi prev (entries_from s at end) ≡ answer → false ≡ answer
-  leaf-unpaired prev s at end answer (unread f g) h inv = leaf-bad prev (entries_from s at end) answer (f h) inv
-  leaf-unpaired prev s at end answer (unlike e c n o) h inv = leaf-other prev e s (entries_from s at end) (entries_from s c.at c.end) answer n.first o inv
+      pub leaf-stop : x ≡ false → false ≡ answer
+      leaf-stop f = rw f at step_is
 
-  step_is : (prev : Option (List ℕ)) (p v : Place) (s : List ℕ) (x y : Option (List defined.Entry)) (answer : Bool) → x ≡ defined.entry_then (some (entry_in s (Entry.Pair p v))) y
-      → walk_run sh lo hi prev x ≡ answer → row_next sh lo prev (part s p) (part s v) && walk_run sh lo hi (some (part s p)) y ≡ answer
-  step_is prev p v s x y answer q inv =
-      let z : walk_run sh lo hi prev (defined.entry_then (some (defined.pair (part s p) (part s v))) y) ≡ answer = rw q at inv in
-      sym (run-pair prev (part s p) (part s v) y) ∙ z
-
-  pub leaf-stop : (prev : Option (List ℕ)) (p v : Place) (s : List ℕ) (x y : Option (List defined.Entry)) (answer b : Bool) → x ≡ defined.entry_then (some (entry_in s (Entry.Pair p v))) y
-      → b ≡ row_next sh lo prev (part s p) (part s v) → b ≡ false → walk_run sh lo hi prev x ≡ answer → false ≡ answer
-  leaf-stop prev p v s x y answer b q r f inv = rw (sym r ∙ f) at (step_is prev p v s x y answer q inv)
-
-  pub leaf-on : (prev : Option (List ℕ)) (p v : Place) (s : List ℕ) (x y : Option (List defined.Entry)) (answer b : Bool) → x ≡ defined.entry_then (some (entry_in s (Entry.Pair p v))) y
-      → b ≡ row_next sh lo prev (part s p) (part s v) → b ≡ true → walk_run sh lo hi prev x ≡ answer → walk_run sh lo hi (prev_in s (Prev.Key p)) y ≡ answer
-  unfolding prev_in
-  leaf-on prev p v s x y answer b q r f inv = rw (sym r ∙ f) at (step_is prev p v s x y answer q inv)
-
--- one pair
-pub start-follows : (s lo k : List ℕ) (prev : Prev) (b : Bool) → prev ≡ Prev.Start → b ≡ before k lo → not b ≡ after lo (prev_in s prev) k
-unfolding after prev_in
-start-follows s lo k prev b e h = rw e (ap not h)
-
-pub key-follows : (s lo k : List ℕ) (prev : Prev) (p : Place) (b : Bool) → prev ≡ Prev.Key p → b ≡ before (part s p) k → b ≡ after lo (prev_in s prev) k
-unfolding after prev_in
-key-follows s lo k prev p b e h = rw e h
-
-pub start-closes : (s hi : List ℕ) (prev : Prev) → prev ≡ Prev.Start → true ≡ closes hi (prev_in s prev)
-unfolding closes prev_in
-start-closes s hi prev e = rw e
-
-pub key-closes : (s hi : List ℕ) (prev : Prev) (p : Place) (b : Bool) → prev ≡ Prev.Key p → b ≡ before (part s p) hi → b ≡ closes hi (prev_in s prev)
-unfolding closes prev_in
-key-closes s hi prev p b e h = rw e h
-
-module _ (sh : machine.Shape) (lo : List ℕ) (prev : Option (List ℕ)) (k s : List ℕ) (v : Place) (w : Within 0 (length s) v) where
-  fits-no : value_limit < v.stop - v.start → value_fits (part s v) ≡ false
-  unfolding value_fits
-  fits-no h = let l = cut-length s v.start v.stop w.rises w.high in lt-leb (length (part s v)) value_limit (omega arith)
-
-  fits-yes : v.stop - v.start ≤ value_limit → value_fits (part s v) ≡ true
-  unfolding value_fits
-  fits-yes h = let l = cut-length s v.start v.stop w.rises w.high in le-leb (length (part s v)) value_limit (omega arith)
-
-  all-no : (a b : Bool) → false ≡ a && (b && false)
-  all-no true true = refl
-  all-no true false = refl
-  all-no false b = refl
-
-  pub row-long : value_limit < v.stop - v.start → false ≡ row_next sh lo prev k (part s v)
-  unfolding row_next
-  row-long h = rw (fits-no h) (all-no (after lo prev k) (machine.goes_on sh k))
-
-  pub row_back : (x : Bool) → x ≡ after lo prev k → x ≡ false → false ≡ row_next sh lo prev k (part s v)
-  unfolding row_next
-  row_back x e f = rw (sym e ∙ f)
-
-  pub row-shape : v.stop - v.start ≤ value_limit → (x z : Bool) → x ≡ after lo prev k → x ≡ true → z ≡ machine.goes_on sh k → z ≡ row_next sh lo prev k (part s v)
-  unfolding row_next
-  row-shape h x z ex fx ez = rw (fits-yes h, sym ex ∙ fx) (ez ∙ sym (and-true (machine.goes_on sh k)))
-
-pub leaf-start : (sh : machine.Shape) (lo hi s : List ℕ) (x : Option (List defined.Entry)) → walk_run sh lo hi (prev_in s Prev.Start) x ≡ walk_run sh lo hi none x
-unfolding prev_in
-leaf-start sh lo hi s x = refl
+      pub leaf-on : x ≡ true → walk_run sh lo hi (some k.now) (defined.entries_of r) ≡ answer
+      leaf-on f = rw f at step_is

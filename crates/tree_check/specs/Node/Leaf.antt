@@ -9,17 +9,6 @@ use Rattle.image.specs.Image.{unread, leaf, pair_then, pairs_of, or_none, leaf_o
 use Rattle.image.specs.Sound.{values_fit}
 use Rattle.path.specs.Shape as machine
 use Rattle.laws.specs.Reading.SoundHere as inside
-use Rattle.node.specs.Places.{part, Within}
-use Rattle.node.specs.declared.Place.{Place}
-use Rattle.tree_check.specs.declared.node_check.Prev.{Prev}
-
-unfoldable pub prev_in : List ℕ → Prev → Option (List ℕ)
-prev_in s Prev.Start = none
-prev_in s (Prev.Key p) = some (part s p)
-
-unfoldable pub PrevFits : ℕ → Prev → Type 0
-PrevFits n Prev.Start = Unit
-PrevFits n (Prev.Key p) = Within 0 n p
 
 -- a key comes after the one before it
 unfoldable pub follows : Option (List ℕ) → List ℕ → Bool
@@ -39,18 +28,6 @@ leaf_list sh lo hi prev (defined.message m ∷ es) = false
 unfoldable pub leaf_run : machine.Shape → List ℕ → List ℕ → Option (List ℕ) → Option (List defined.Entry) → Bool
 leaf_run sh lo hi prev none = false
 leaf_run sh lo hi prev (some es) = leaf_list sh lo hi prev es
-
-pub prev-place : (n : ℕ) (prev : Prev) (p : Place) → PrevFits n prev → prev ≡ Prev.Key p → Within 0 n p
-unfolding PrevFits
-prev-place n prev p w e = subst (PrevFits n) e w
-
-pub start_fits : (n : ℕ) → PrevFits n Prev.Start
-unfolding PrevFits
-start_fits n = tt
-
-pub key_fits : (n : ℕ) (p : Place) → Within 0 n p → PrevFits n (Prev.Key p)
-unfolding PrevFits
-key_fits n p w = w
 
 -- The walk is the definition: by pairs instead of by rules.
 swap : (a b c d : Bool) → (a && b) && (c && d) ≡ (a && c) && (b && d)

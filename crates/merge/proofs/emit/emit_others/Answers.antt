@@ -1,42 +1,27 @@
--- `emit_others` meets its contract: the entries left, written behind what is written, are all.
--- Relies on specs/EmitSteps, on push's WriteSteps and on the contract of node's cursor.
+-- `emit_others` meets its contract: all entries but one child stand one behind the other. Relies on specs/EmitSteps and on push's WriteSteps.
 use Rattle.std.proofs.Common.{rules}
-use Rattle.std.specs.Prelude.{length, refl, ◌∷◌, []}
-use Rattle.image.specs.Prelude.{arith, ◌∙◌}
-use Rattle.laws.specs.Encode.{bytes_of_all}
-use Rattle.node.specs.Entries.{listed, listed-end}
-use Rattle.node.specs.Places.{Next, entry_in, step-bad-is, step-read-is, entry-wider}
-use Rattle.push.specs.WriteSteps.{line-fits, line-length, line_on, line-end, line-ends}
-use Rattle.merge.specs.Laws.Joined.{without_child}
-use Rattle.merge.specs.EmitSteps.{without-cons, without-none, small-first, small-later}
+use Rattle.std.specs.Prelude.{refl}
+use Rattle.push.specs.WriteSteps.{page-fits, page-on, page-ends, page-stays, whole-fits}
+use Rattle.merge.specs.EmitSteps.{without-same, without-more, without-none, small-first, small-later, small-is}
 use Rattle.merge.proofs.emit.emit_others.Goals as goal
 
-pub loop-c-init : goal.loop-c-init
-loop-c-init c = (refl, refl, refl, refl, c.requires.1)
+pub push-requires : goal.push-requires
+push-requires c = (
+  page-fits _ _ _ _ _ (without-more _ _ _ c.in-Some.ensures.steps c.args.gone (search rules)) c.loop-entry.invariant.1 _ refl (whole-fits _ _ c.requires.1),
+  small-is _ (small-first _ _ _ c.in-Some.ensures.steps c.loop-entry.invariant.0),
+)
 
-pub step-requires : goal.step-requires
-step-requires c = omega arith
+pub loop-entry-preserved-then-not-is_child : goal.loop-entry-preserved-then-not-is_child
+loop-entry-preserved-then-not-is_child c = (
+  small-later _ _ _ c.in-Some.ensures.steps c.loop-entry.invariant.0,
+  page-on _ _ _ _ _ (without-more _ _ _ c.in-Some.ensures.steps c.args.gone (search rules)) c.loop-entry.invariant.1 _ _ refl c.push.ensures,
+)
 
-pub shape_of-page-in_default : goal.shape_of-page-in_default
-shape_of-page-in_default c = c.loop-c.invariant.1
-
-pub returns-in_default : goal.returns-in_default
-returns-in_default c = let z = without-none c.args.gone (listed c.args.s.now c.loop-c.c.at c.loop-c.c.end) (step-bad-is _ _ _ _ c.step.ensures c.in_default.is).1 in (line-end _ _ _ _ _ _ z c.loop-c.invariant.3, line-ends _ _ (bytes_of_all (without_child c.args.gone (listed c.args.s.now 8 c.args.stop))) (bytes_of_all (without_child c.args.gone (listed c.args.s.now c.loop-c.c.at c.loop-c.c.end))) z c.loop-c.invariant.2)
-
-pub emit_unless-to-requires : goal.emit_unless-to-requires
-emit_unless-to-requires c = let next-is : Next c.args.s.now c.loop-c.c.at c.loop-c.c.end c.in-Read.e c.in-Read.next = step-read-is _ _ _ _ _ _ c.step.ensures c.in-Read.is in
-    let n = next-is in (entry-wider c.loop-c.c.at c.loop-c.c.end 0 (length c.args.s.now) c.in-Read.e (omega arith) (omega arith) n.reachable, small-first _ _ _ n.lists c.loop-c.invariant.4, line-fits c.args.page.now c.loop-c.page c.loop-c.page c.args.at c.loop-c.to 0 (bytes_of_all (without_child c.args.gone (listed c.args.s.now 8 c.args.stop))) (bytes_of_all (without_child c.args.gone (listed c.args.s.now c.loop-c.c.at c.loop-c.c.end))) (bytes_of_all (without_child c.args.gone ((entry_in c.args.s.now c.in-Read.e) ∷ []))) (bytes_of_all (without_child c.args.gone (listed c.args.s.now c.in-Read.next.at c.in-Read.next.end))) (without-cons c.args.gone _ _ _ n.lists) c.loop-c.invariant.2 c.requires.2 c.loop-c.invariant.1, omega arith)
-
-pub loop-c-smaller : goal.loop-c-smaller
-loop-c-smaller c = let next-is : Next c.args.s.now c.loop-c.c.at c.loop-c.c.end c.in-Read.e c.in-Read.next = step-read-is _ _ _ _ _ _ c.step.ensures c.in-Read.is in
-    let n = next-is in omega arith
-
-pub loop-c-preserved : goal.loop-c-preserved
-loop-c-preserved c = let next-is : Next c.args.s.now c.loop-c.c.at c.loop-c.c.end c.in-Read.e c.in-Read.next = step-read-is _ _ _ _ _ _ c.step.ensures c.in-Read.is in
-    let n = next-is in let z = without-cons c.args.gone _ _ _ n.lists in (n.ends ∙ c.loop-c.invariant.0, search rules, line-length c.args.page.now c.loop-c.page c.loop-c.page c.args.at c.loop-c.to c.emit_unless-to.result (bytes_of_all (without_child c.args.gone (listed c.args.s.now 8 c.args.stop))) (bytes_of_all (without_child c.args.gone (listed c.args.s.now c.loop-c.c.at c.loop-c.c.end))) (bytes_of_all (without_child c.args.gone ((entry_in c.args.s.now c.in-Read.e) ∷ []))) (bytes_of_all (without_child c.args.gone (listed c.args.s.now c.in-Read.next.at c.in-Read.next.end))) z c.loop-c.invariant.2 c.emit_unless-to.ensures.1, line_on c.args.page.now c.loop-c.page _ c.args.at c.loop-c.to c.emit_unless-to.result (bytes_of_all (without_child c.args.gone (listed c.args.s.now 8 c.args.stop))) (bytes_of_all (without_child c.args.gone (listed c.args.s.now c.loop-c.c.at c.loop-c.c.end))) (bytes_of_all (without_child c.args.gone ((entry_in c.args.s.now c.in-Read.e) ∷ []))) (bytes_of_all (without_child c.args.gone (listed c.args.s.now c.in-Read.next.at c.in-Read.next.end))) z c.loop-c.invariant.2 c.requires.2 c.loop-c.invariant.1 c.emit_unless-to.ensures.1 c.emit_unless-to.ensures.0 c.loop-c.invariant.3, small-later _ _ _ n.lists c.loop-c.invariant.4)
-
-pub shape_of-page : goal.shape_of-page
-shape_of-page c = c.loop-c.invariant.1
+pub loop-entry-preserved : goal.loop-entry-preserved
+loop-entry-preserved c = (
+  small-later _ _ _ c.in-Some.ensures.steps c.loop-entry.invariant.0,
+  page-stays _ _ _ _ (without-same _ _ _ c.in-Some.ensures.steps c.args.gone (search rules)) c.loop-entry.invariant.1,
+)
 
 pub returns : goal.returns
-returns c = let z = without-none c.args.gone _ (listed-end c.args.s.now c.loop-c.c.at c.loop-c.c.end (omega arith)) in (line-end _ _ _ _ _ _ z c.loop-c.invariant.3, line-ends _ _ (bytes_of_all (without_child c.args.gone (listed c.args.s.now 8 c.args.stop))) (bytes_of_all (without_child c.args.gone (listed c.args.s.now c.loop-c.c.at c.loop-c.c.end))) z c.loop-c.invariant.2)
+returns c = page-ends _ _ _ (without-none c.args.gone _ c.in-None.ensures.steps.0) c.loop-entry.invariant.1

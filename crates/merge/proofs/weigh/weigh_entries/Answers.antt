@@ -1,38 +1,34 @@
--- `weigh_entries` meets its contract: the sum so far and the entries left weigh what all do.
--- Relies on specs/WeighSteps and on the contract of node's cursor.
-use Rattle.std.specs.Prelude.{length, refl}
-use Rattle.image.specs.Prelude.{arith, ◌∙◌}
-use Rattle.node.specs.Entries.{listed-end}
-use Rattle.node.specs.Places.{Next, step-bad-is, step-read-is, entry-wider}
-use Rattle.merge.specs.WeighSteps.{weighs-over, weighs-none, weighs-on}
+-- `weigh_entries` meets its contract: the sum so far and the entries left weigh what all do. Relies on specs/WeighSteps.
+use Rattle.image.specs.Prelude.{arith}
+use Rattle.node.specs.Lent.{entry_is}
+use Rattle.merge.specs.WeighSteps.{weight-small, first_light, weighs-none, weighs-on, weighs-over}
 use Rattle.merge.proofs.weigh.weigh_entries.Goals as goal
 
-pub loop-c-init : goal.loop-c-init
-loop-c-init c = (refl, omega arith, refl)
+pub weigh_entry-requires : goal.weigh_entry-requires
+weigh_entry-requires c = ((first_light _ _ _ c.in-Some.ensures.steps c.loop-entry.invariant.0).0, c.requires.1)
 
-pub returns-then-sum-gt-ENTRIES_LIMIT : goal.returns-then-sum-gt-ENTRIES_LIMIT
-returns-then-sum-gt-ENTRIES_LIMIT c = (weighs-over _ _ _ _ c.loop-c.invariant.2 (omega arith), omega arith)
-
-pub step-requires : goal.step-requires
-step-requires c = omega arith
-
-pub returns-in_default : goal.returns-in_default
-returns-in_default c = (weighs-none _ _ _ _ c.loop-c.invariant.2 (step-bad-is _ _ _ _ c.step.ensures c.in_default.is).1, omega arith)
-
-pub weigh_entry-sum-requires : goal.weigh_entry-sum-requires
-weigh_entry-sum-requires c = let next-is : Next c.args.s.now c.loop-c.c.at c.loop-c.c.end c.in-Read.e c.in-Read.next = step-read-is _ _ _ _ _ _ c.step.ensures c.in-Read.is in
-    let n = next-is in (entry-wider c.loop-c.c.at c.loop-c.c.end 0 (length c.args.s.now) c.in-Read.e (omega arith) (omega arith) n.reachable, omega arith, omega arith)
+pub returns-in_err-sum : goal.returns-in_err-sum
+returns-in_err-sum c =
+    let w = c.in_err-sum.ensures in
+    rw c.from_residual.ensures (weighs-over _ _ _ _ c.loop-entry.invariant.2 _ _ c.in-Some.ensures.steps c.loop-entry.invariant.1 (omega arith))
 
 pub overflow_add-sum : goal.overflow_add-sum
-overflow_add-sum c = let r = c.weigh_entry-sum.ensures in omega arith
+overflow_add-sum c =
+    let w = c.in_ok-sum.ensures in
+    let z = weight-small c.args.more (entry_is c.in-Some.entry) in
+    let f = (first_light _ _ _ c.in-Some.ensures.steps c.loop-entry.invariant.0).0 in
+    omega arith
 
-pub loop-c-smaller : goal.loop-c-smaller
-loop-c-smaller c = let next-is : Next c.args.s.now c.loop-c.c.at c.loop-c.c.end c.in-Read.e c.in-Read.next = step-read-is _ _ _ _ _ _ c.step.ensures c.in-Read.is in
-    let n = next-is in omega arith
+pub returns-then-sum-gt-ENTRIES_LIMIT : goal.returns-then-sum-gt-ENTRIES_LIMIT
+returns-then-sum-gt-ENTRIES_LIMIT c =
+    let w = c.in_ok-sum.ensures in weighs-over _ _ _ _ c.loop-entry.invariant.2 _ _ c.in-Some.ensures.steps c.loop-entry.invariant.1 (omega arith)
 
-pub loop-c-preserved : goal.loop-c-preserved
-loop-c-preserved c = let next-is : Next c.args.s.now c.loop-c.c.at c.loop-c.c.end c.in-Read.e c.in-Read.next = step-read-is _ _ _ _ _ _ c.step.ensures c.in-Read.is in
-    let n = next-is in let r = c.weigh_entry-sum.ensures in (n.ends ∙ c.loop-c.invariant.0, omega arith, weighs-on _ _ _ _ c.loop-c.invariant.2 _ _ _ n.lists (omega arith) r.0)
+pub loop-entry-preserved : goal.loop-entry-preserved
+loop-entry-preserved c = (
+  (first_light _ _ _ c.in-Some.ensures.steps c.loop-entry.invariant.0).1,
+  omega arith,
+  weighs-on _ _ _ _ c.loop-entry.invariant.2 _ _ c.in-Some.ensures.steps c.loop-entry.invariant.1 _ c.in_ok-sum.ensures,
+)
 
 pub returns : goal.returns
-returns c = (weighs-none _ _ _ _ c.loop-c.invariant.2 (listed-end _ _ _ (omega arith)), omega arith)
+returns c = (weighs-none _ _ _ _ c.loop-entry.invariant.2 c.in-None.ensures.steps.0, c.loop-entry.invariant.1)

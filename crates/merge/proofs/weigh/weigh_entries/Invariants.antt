@@ -1,11 +1,12 @@
--- The loop of `weigh_entries`: the sum so far and the entries left weigh what all do. The measure is the bytes left. Relies on specs/Laws/Joined.
-use Rattle.std.specs.Prelude.{◌≡◌, ◌≤◌, ◌-◌}
-use Rattle.node.specs.Entries.{listed}
+-- The loop of `weigh_entries`: the sum so far and the entries left weigh what all do. Relies on specs/Laws/Joined.
+use Rattle.std.specs.Prelude.{length, ◌≡◌, ◌≤◌}
+use Rattle.laws.specs.Encode.{bytes_of_all}
+use Rattle.node.specs.Lent.{left_of}
 use Rattle.merge.specs.Laws.Joined.{weights}
 use Rattle.merge.proofs.weigh.weigh_entries.Given as goal
 
-abbrev pub invariant-loop-c : goal.invariant-loop-c
-invariant-loop-c l = (l.c.end ≡ l.stop) × (l.sum ≤ 20000000) × (weights l.k (listed l.s l.c.at l.c.end) l.sum ≡ weights l.k (listed l.s l.from l.stop) l.used)
-
-abbrev pub decreases-loop-c : goal.decreases-loop-c
-decreases-loop-c l = l.stop - l.c.at
+abbrev pub invariant-loop-entry : goal.invariant-loop-entry
+invariant-loop-entry l =
+    (length (bytes_of_all (left_of l.entry-iterator)) ≤ 1016)
+    × (l.sum ≤ 1016)
+    × (weights l.more (left_of l.entry-iterator) l.sum ≡ weights l.more (left_of l.fn.entries) l.used)

@@ -1,18 +1,21 @@
--- `weigh_node` meets its contract.
--- Relies on specs/WeighSteps.
-use Rattle.image.specs.Prelude.{arith}
+-- `weigh_node` meets its contract. Relies on specs/WeighSteps.
+use Rattle.image.specs.Prelude.{arith, subst}
 use Rattle.image.specs.Image.{nodes_of}
-use Rattle.merge.specs.WeighSteps.{node-out, node-long, node-weighs, listing-as}
+use Rattle.merge.specs.Light.{Light}
+use Rattle.merge.specs.WeighSteps.{node-out, node-long, listed-light, node-weighs}
 use Rattle.merge.proofs.weigh.weigh_node.Goals as goal
 
 pub returns-then-store-num : goal.returns-then-store-num
 unfolding nodes_of
-returns-then-store-num c = (node-out _ _ _ _ c.if-store-num.true, omega arith)
+returns-then-store-num c = node-out _ _ _ _ (omega arith)
 
-pub returns-then-len-gt-ENTRIES_LIMIT : goal.returns-then-len-gt-ENTRIES_LIMIT
+pub returns-then-read_length-gt-ENTRIES_LIMIT : goal.returns-then-read_length-gt-ENTRIES_LIMIT
 unfolding nodes_of
-returns-then-len-gt-ENTRIES_LIMIT c = (node-long _ _ _ _ _ c.if-store-num.false c.read_length-len.ensures.0 c.if-len-gt-ENTRIES_LIMIT.true, omega arith)
+returns-then-read_length-gt-ENTRIES_LIMIT c = let e = c.read_length.ensures.0 in node-long _ _ _ _ (omega arith) (omega arith)
+
+pub weigh_entries-requires : goal.weigh_entries-requires
+weigh_entries-requires c = let e = c.read_length.ensures.0 in (listed-light _ _ _ c.of_node.ensures.lists (omega arith), c.requires.0, c.requires.1)
 
 pub returns : goal.returns
 unfolding nodes_of
-returns c = (node-weighs _ _ _ _ _ _ c.if-store-num.false c.read_length-len.ensures.0 c.if-len-gt-ENTRIES_LIMIT.false (listing-as c.args.store.now c.args.num c.read_length-len.result c.args.k c.args.used _ c.read_length-len.ensures.0 c.weigh_entries.ensures.0), c.weigh_entries.ensures.1)
+returns c = subst (λ w. Light w c.weigh_entries.result) (node-weighs _ _ _ _ _ c.of_node.ensures.lists (omega arith) (omega arith)) c.weigh_entries.ensures

@@ -1,13 +1,14 @@
 -- The loop of `check_messages`: the messages left run on as all do, and those counted and those left are all. The measure is the bytes left. Relies
 -- on specs/Node/Inside.
-use Rattle.std.specs.Prelude.{◌+◌, ◌-◌, ◌≤◌, ◌≡◌, length}
+use Rattle.std.specs.Prelude.{◌+◌, ◌≤◌, ◌≡◌, length}
+use Rattle.image.specs.Entry.{entries_of}
 use Rattle.path.specs.Fed.{shape_is}
-use Rattle.node.specs.Entries.{entries_from, listed}
+use Rattle.node.specs.Entries.{list_of}
 use Rattle.tree_check.specs.Node.Inside.{messages_run}
 use Rattle.tree_check.proofs.node_check.check_messages.Given as goal
 
-abbrev pub invariant-loop-c : goal.invariant-loop-c
-invariant-loop-c l = (l.c.end ≡ l.end) × (l.n ≤ l.c.at) × (l.n + length (listed l.s l.c.at l.c.end) ≡ length (listed l.s l.from l.end)) × (messages_run (shape_is l.sh) l.lo l.hi (entries_from l.s l.c.at l.c.end) ≡ messages_run (shape_is l.sh) l.lo l.hi (entries_from l.s l.from l.end))
+abbrev pub invariant-loop-rest : goal.invariant-loop-rest
+invariant-loop-rest l = (l.count + length l.rest ≤ length l.entries) × (l.count + length (list_of l.rest) ≡ length (list_of l.entries)) × (messages_run (shape_is l.sh) l.lo l.hi (entries_of l.rest) ≡ messages_run (shape_is l.sh) l.lo l.hi (entries_of l.entries))
 
-abbrev pub decreases-loop-c : goal.decreases-loop-c
-decreases-loop-c l = l.end - l.c.at
+abbrev pub decreases-loop-rest : goal.decreases-loop-rest
+decreases-loop-rest l = length l.rest

@@ -1,7 +1,0 @@
--- `joined` adds two tallies number by number.
--- Relies on CountLaws.
-use Rattle.tree_check.specs.CountLaws.{sum_is}
-use Rattle.tree_check.proofs.joined.Goals as goal
-
-pub returns : goal.returns
-returns c = sum_is _ _ _ _ _ c.capped_sum-pairs.ensures.0 c.capped_sum-messages.ensures.0 c.capped_sum-nodes.ensures.0

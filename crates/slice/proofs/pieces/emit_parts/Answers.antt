@@ -1,52 +1,37 @@
--- `emit_parts` meets its contract, by which pieces there are.
--- Relies on specs/PieceSteps and push/specs/WriteSteps.
-use Rattle.std.proofs.Common.{rules}
-use Rattle.slice.specs.PieceSteps.{pieces_none, pieces-edge, pieces-rest, pieces-both, rest-fits, both-fits, twice-first, twice-second, twice-put, twice_ends}
-use Rattle.push.specs.WriteSteps.{puts-as, ends_as, fits-as, puts-nothing, ends_nowhere}
-use Rattle.laws.specs.Encode.{bytes_of}
-use Rattle.image.specs.Entry.{child}
-use Rattle.std.specs.Prelude.{length, drop, refl}
-use Rattle.image.specs.Prelude.{arith}
+-- `emit_parts` meets its contract, by which pieces there are. Relies on specs/PieceSteps and push/specs/WriteSteps.
+use Rattle.std.specs.Prelude.{length}
+use Rattle.image.specs.Prelude.{sym, length-take-le}
+use Rattle.slice.specs.PieceSteps.{pieces_none, pieces-edge, pieces-rest, pieces-both, rest-fits, both-fits, push-fits, push-on, push-first, push-second, push-both, push-nothing}
 use Rattle.slice.proofs.pieces.emit_parts.Goals as goal
 
-pub emit_piece-requires : goal.emit_piece-requires
-emit_piece-requires c = ((fits-as c.args.page.now c.args.page.now c.args.at 0 _ _ _ (pieces-edge c.args.pieces.edge c.args.pieces.rest c.args.d c.args.k.now c.args.out.now c.args.pieces.parts c.in-Edge.is) c.requires.1 refl), c.requires.2, c.requires.3)
+pub push-requires : goal.push-requires
+push-requires c = (push-fits _ _ _ _ _ (pieces-edge _ _ _ _ _ _ c.in-Edge.is) c.past.ensures c.requires.1, c.requires.2)
 
-pub slice_bounds-emit_piece-count : goal.slice_bounds-emit_piece-count
-slice_bounds-emit_piece-count c = let f = rest-fits (length c.args.out.now) _ c.args.pieces.parts c.in-Rest.is c.requires.0 in omega arith
+pub slice_bounds-past-end : goal.slice_bounds-past-end
+slice_bounds-past-end c = sym (length-take-le c.in-Rest.n c.args.out.now (rest-fits (length c.args.out.now) _ c.args.pieces.parts c.in-Rest.is c.requires.0))
 
-pub slice_bounds-emit_piece-start : goal.slice_bounds-emit_piece-start
-slice_bounds-emit_piece-start c = let f = rest-fits (length c.args.out.now) _ c.args.pieces.parts c.in-Rest.is c.requires.0 in omega arith
+pub push-requires-in-Rest : goal.push-requires-in-Rest
+push-requires-in-Rest c = (push-fits _ _ _ _ _ (pieces-rest _ _ _ _ _ _ _ c.in-Rest.is) c.past-in-Rest.ensures c.requires.1, c.requires.3)
 
-pub slice_bounds-emit_piece-end : goal.slice_bounds-emit_piece-end
-slice_bounds-emit_piece-end c = let f = rest-fits (length c.args.out.now) _ c.args.pieces.parts c.in-Rest.is c.requires.0 in omega arith
+pub push-requires-in-Both : goal.push-requires-in-Both
+push-requires-in-Both c = (push-first _ _ _ _ _ _ (pieces-both _ _ _ _ _ _ _ c.in-Both.is) c.past.ensures c.requires.1, c.requires.2)
 
-pub emit_piece-requires-in-Rest : goal.emit_piece-requires-in-Rest
-emit_piece-requires-in-Rest c = ((fits-as c.args.page.now c.args.page.now c.args.at 0 _ _ _ (pieces-rest c.args.pieces.edge c.args.pieces.rest c.args.d c.args.k.now c.args.out.now c.args.pieces.parts _ c.in-Rest.is) c.requires.1 refl), c.requires.2, c.requires.4)
+pub slice_bounds-past-end-in-Both : goal.slice_bounds-past-end-in-Both
+slice_bounds-past-end-in-Both c = sym (length-take-le c.in-Both.n c.args.out.now (both-fits (length c.args.out.now) _ c.args.pieces.parts c.in-Both.is c.requires.0))
 
-pub emit_piece-to-requires : goal.emit_piece-to-requires
-emit_piece-to-requires c = (twice-first c.args.page.now c.args.page.now (bytes_of (child c.args.pieces.edge (drop c.args.d c.args.k.now))) _ _ c.args.at 0 (pieces-both c.args.pieces.edge c.args.pieces.rest c.args.d c.args.k.now c.args.out.now c.args.pieces.parts _ c.in-Both.is) c.requires.1, c.requires.2, c.requires.3)
-
-pub slice_bounds-emit_piece-count-in-Both : goal.slice_bounds-emit_piece-count-in-Both
-slice_bounds-emit_piece-count-in-Both c = let f = both-fits (length c.args.out.now) _ c.args.pieces.parts c.in-Both.is c.requires.0 in omega arith
-
-pub slice_bounds-emit_piece-start-in-Both : goal.slice_bounds-emit_piece-start-in-Both
-slice_bounds-emit_piece-start-in-Both c = let f = both-fits (length c.args.out.now) _ c.args.pieces.parts c.in-Both.is c.requires.0 in omega arith
-
-pub slice_bounds-emit_piece-end-in-Both : goal.slice_bounds-emit_piece-end-in-Both
-slice_bounds-emit_piece-end-in-Both c = let f = both-fits (length c.args.out.now) _ c.args.pieces.parts c.in-Both.is c.requires.0 in omega arith
-
-pub emit_piece-requires-in-Both : goal.emit_piece-requires-in-Both
-emit_piece-requires-in-Both c = (twice-second c.args.page.now _ (bytes_of (child c.args.pieces.edge (drop c.args.d c.args.k.now))) _ _ c.args.at _ (pieces-both c.args.pieces.edge c.args.pieces.rest c.args.d c.args.k.now c.args.out.now c.args.pieces.parts _ c.in-Both.is) c.requires.1 c.emit_piece-to.ensures.1 c.emit_piece-to.ensures.0, search rules, c.requires.4)
+pub push-requires-in-Both-2 : goal.push-requires-in-Both-2
+push-requires-in-Both-2 c =
+    (push-second _ _ _ _ _ _ _ _ (pieces-both _ _ _ _ _ _ _ c.in-Both.is) c.past.ensures c.past-in-Both.ensures c.requires.1 _ c.push-in-Both.ensures, c.requires.3)
 
 pub returns-in-Nothing : goal.returns-in-Nothing
-returns-in-Nothing c = let z = pieces_none c.args.pieces.edge c.args.pieces.rest c.args.d c.args.k.now c.args.out.now c.args.pieces.parts c.in-Nothing.is in (puts-nothing _ _ _ z, ends_nowhere _ _ z)
+returns-in-Nothing c = push-nothing _ _ (pieces_none _ _ _ _ _ _ c.in-Nothing.is)
 
 pub returns-in-Edge : goal.returns-in-Edge
-returns-in-Edge c = (puts-as c.args.page.now _ c.args.at 0 0 _ _ (pieces-edge c.args.pieces.edge c.args.pieces.rest c.args.d c.args.k.now c.args.out.now c.args.pieces.parts c.in-Edge.is) c.emit_piece.ensures.0, ends_as c.args.page.now c.args.page.now c.args.at _ _ _ _ (pieces-edge c.args.pieces.edge c.args.pieces.rest c.args.d c.args.k.now c.args.out.now c.args.pieces.parts c.in-Edge.is) c.emit_piece.ensures.1 refl)
+returns-in-Edge c = push-on _ _ _ _ _ (pieces-edge _ _ _ _ _ _ c.in-Edge.is) c.past.ensures _ c.push.ensures
 
 pub returns-in-Rest : goal.returns-in-Rest
-returns-in-Rest c = (puts-as c.args.page.now _ c.args.at 0 0 _ _ (pieces-rest c.args.pieces.edge c.args.pieces.rest c.args.d c.args.k.now c.args.out.now c.args.pieces.parts _ c.in-Rest.is) c.emit_piece-in-Rest.ensures.0, ends_as c.args.page.now c.args.page.now c.args.at _ _ _ _ (pieces-rest c.args.pieces.edge c.args.pieces.rest c.args.d c.args.k.now c.args.out.now c.args.pieces.parts _ c.in-Rest.is) c.emit_piece-in-Rest.ensures.1 refl)
+returns-in-Rest c = push-on _ _ _ _ _ (pieces-rest _ _ _ _ _ _ _ c.in-Rest.is) c.past-in-Rest.ensures _ c.push-in-Rest.ensures
 
 pub returns-in-Both : goal.returns-in-Both
-returns-in-Both c = (twice-put c.args.page.now _ (bytes_of (child c.args.pieces.edge (drop c.args.d c.args.k.now))) _ _ c.args.at _ (pieces-both c.args.pieces.edge c.args.pieces.rest c.args.d c.args.k.now c.args.out.now c.args.pieces.parts _ c.in-Both.is) c.requires.1 c.emit_piece-to.ensures.1 _ c.emit_piece-to.ensures.0 c.emit_piece-in-Both.ensures.0, twice_ends c.args.page.now c.args.page.now (bytes_of (child c.args.pieces.edge (drop c.args.d c.args.k.now))) _ _ c.args.at _ (pieces-both c.args.pieces.edge c.args.pieces.rest c.args.d c.args.k.now c.args.out.now c.args.pieces.parts _ c.in-Both.is) c.requires.1 c.emit_piece-to.ensures.1 _ c.emit_piece-in-Both.ensures.1)
+returns-in-Both c =
+    push-both _ _ _ _ _ _ _ _ (pieces-both _ _ _ _ _ _ _ c.in-Both.is) c.past.ensures c.past-in-Both.ensures _ c.push-in-Both.ensures _ c.push-in-Both-2.ensures

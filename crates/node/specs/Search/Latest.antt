@@ -1,16 +1,11 @@
 -- The newest message of a node on a rest, found entry by entry; and whether an entry says anything of it.
-use Rattle.std.specs.Prelude.{ℕ, ◌≡◌, refl, List, [], ◌∷◌, Bool, true, false, cond}
-use Rattle.image.specs.Prelude.{sym, ap, subst, ◌∙◌, Option, none, some}
-use Rattle.image.specs.Bytes.{same, begins}
+use Rattle.std.specs.Prelude.{ℕ, ◌≡◌, refl, List, [], ◌∷◌, Bool, true, false}
+use Rattle.image.specs.Prelude.{sym, ap, ◌∙◌, Option}
 use Rattle.image.specs.Entry as defined
 use Rattle.image.specs.Meaning.{Said, nothing, says, says_of, newer}
-use Rattle.node.specs.Places.{part, message_in, entry_in, MessageWithin, EntryWithin, Within}
 use Rattle.node.specs.Lent.{message_is, entry_is}
 use Rattle.node.specs.declared.entries.Message as spoken
 use Rattle.node.specs.declared.entries.Entry as lent
-use Rattle.node.specs.declared.Place.{Place}
-use Rattle.node.specs.declared.Message.{Message}
-use Rattle.node.specs.declared.Entry.{Entry}
 
 -- what an entry says of a rest
 unfoldable pub entry_says : defined.Entry → List ℕ → Said
@@ -74,3 +69,7 @@ module _ (best answer : Said) (es ts : List defined.Entry) (rest : List ℕ) (e 
         last : (v : Option (List ℕ)) → says v ≡ newer best (says v)
         last v = unfold newer in refl
 
+-- whether anything is said
+unfoldable pub covers : Said → Bool
+covers nothing = false
+covers (says v) = true

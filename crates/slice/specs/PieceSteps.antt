@@ -1,6 +1,6 @@
 -- Step lemmas of the pages of a right part. Relies on RightLaws and on octets' `put`.
-use Rattle.std.specs.Prelude.{ℕ, ◌+◌, ◌*◌, ◌≤◌, ◌≡◌, refl, List, [], ◌∷◌, ◌++◌, Bool, true, false, not, cond, length, take, drop, eqb, get_or}
-use Rattle.image.specs.Prelude.{sym, ap, ap₂, subst, ◌∙◌, append-nil, append_assoc, false≢true, true≢false, arith, length-append, take_at, eq-eqb, ne_eqb}
+use Rattle.std.specs.Prelude.{ℕ, ◌+◌, ◌*◌, ◌≤◌, ◌≡◌, refl, List, [], ◌∷◌, ◌++◌, Bool, true, false, not, ◌||◌, cond, length, take, drop, eqb, get_or, Option, None, Some, is_some, MatchOption}
+use Rattle.image.specs.Prelude.{sym, ap, ap₂, subst, ◌∙◌, append-nil, append_assoc, arith, length-append, take_at, eq-eqb, ne_eqb}
 use Rattle.image.specs.Bytes.{shared}
 use Rattle.image.specs.Entry as defined
 use Rattle.image.specs.Image.{Branch}
@@ -12,27 +12,33 @@ use Rattle.laws.specs.Reading.Relative.{branch_high}
 use Rattle.node.specs.Search.Own.{branch}
 use Rattle.slice.specs.declared.Parts.{Parts}
 use Rattle.slice.specs.Point.{fresh_in}
-use Rattle.slice.specs.Right.{pieces_in, PartsFit, all_line, over_body, two_body, wide_body, with_rest, edge_only, both_told, one_node, head_branch, raise_branches, WideAsks, NarrowAsks}
+use Rattle.slice.specs.Right.{edge_piece, rest_piece, pieces_in, PartsFit, has_any, all_line, over_body, two_body, wide_body, with_rest, edge_only, both_told, one_node, head_branch, raise_branches, WideAsks, NarrowAsks}
 use Rattle.slice.specs.RightLaws.{all_append, all-long}
 
 -- THE PIECES
-module _ (a b d : ℕ) (k out : List ℕ) (parts : Parts) where
-  pub pieces_none : parts ≡ Parts.Nothing → all_line d (pieces_in a b k out parts) ≡ []
-  unfolding pieces_in all_line
-  pieces_none e = rw e
+module _ (a b d : ℕ) (k out : List ℕ) (p : Parts) where
+  pub pieces-line : all_line d (pieces_in a b k out p) ≡ all_line d (edge_piece a k p.edge) ++ all_line d (rest_piece b out p.rest)
+  unfolding pieces_in
+  pieces-line = all_append d (edge_piece a k p.edge) (rest_piece b out p.rest)
 
-  pub pieces-edge : parts ≡ Parts.Edge → all_line d (pieces_in a b k out parts) ≡ bytes_of (defined.child a (drop d k))
-  unfolding pieces_in all_line
-  pieces-edge e = rw e (append-nil (bytes_of (defined.child a (drop d k))))
+pub edge-yes : (a d : ℕ) (k : List ℕ) (e : Bool) → e ≡ true → all_line d (edge_piece a k e) ≡ bytes_of (defined.child a (drop d k))
+unfolding edge_piece all_line
+edge-yes a d k e q = rw q (append-nil (bytes_of (defined.child a (drop d k))))
 
-  pub pieces-rest : (n : ℕ) → parts ≡ Parts.Rest n → all_line d (pieces_in a b k out parts) ≡ bytes_of (defined.child b (drop d (take n out)))
-  unfolding pieces_in all_line
-  pieces-rest n e = rw e (append-nil (bytes_of (defined.child b (drop d (take n out)))))
+pub edge-no : (a d : ℕ) (k : List ℕ) (e : Bool) → e ≡ false → all_line d (edge_piece a k e) ≡ []
+unfolding edge_piece all_line
+edge-no a d k e q = rw q
 
-  pub pieces-both : (n : ℕ) → parts ≡ Parts.Both n
-      → all_line d (pieces_in a b k out parts) ≡ bytes_of (defined.child a (drop d k)) ++ bytes_of (defined.child b (drop d (take n out)))
-  unfolding pieces_in all_line
-  pieces-both n e = rw e (ap (λ l. bytes_of (defined.child a (drop d k)) ++ l) (append-nil (bytes_of (defined.child b (drop d (take n out))))))
+pub rest-yes : (b d : ℕ) (out : List ℕ) (r : Option ℕ) (n : ℕ) → r ≡ Some n → all_line d (rest_piece b out r) ≡ bytes_of (defined.child b (drop d (take n out)))
+unfolding rest_piece all_line
+rest-yes b d out r n q = rw q (append-nil (bytes_of (defined.child b (drop d (take n out)))))
+
+pub rest-no : (b d : ℕ) (out : List ℕ) (r : Option ℕ) → r ≡ None → all_line d (rest_piece b out r) ≡ []
+unfolding rest_piece all_line
+rest-no b d out r q = rw q
+
+pub rest-fits : (m n : ℕ) (p : Parts) → p.rest ≡ Some n → PartsFit m p → n ≤ m
+rest-fits m n p e h = subst (λ r. MatchOption r Unit (λ i. i ≤ m)) e h
 
 -- one child pushed, its pivot under another name
 module _ (now all : List ℕ) (i : ℕ) (x y : List ℕ) (e : all ≡ bytes_of (defined.child i y)) (p : x ≡ y) where
@@ -56,32 +62,17 @@ push-first now all i x y B e p h =
     let c = ap (λ l. length (bytes_of (defined.child i l))) p in
     omega arith
 
--- and two
-module _ (now all : List ℕ) (i j : ℕ) (x y z u : List ℕ) (e : all ≡ bytes_of (defined.child i y) ++ bytes_of (defined.child j u)) (p : x ≡ y) (q : z ≡ u) where
-  same-entries : bytes_of (defined.child i x) ++ bytes_of (defined.child j z) ≡ all
-  same-entries = ap₂ (λ l m. bytes_of (defined.child i l) ++ bytes_of (defined.child j m)) p q ∙ sym e
+-- and one behind what is on the page
+module _ (now now₁ E all : List ℕ) (i : ℕ) (x y : List ℕ) (f : now₁ ≡ now ++ E) (e : all ≡ E ++ bytes_of (defined.child i y)) (p : x ≡ y) where
+  whole : now₁ ++ bytes_of (defined.child i x) ≡ now ++ all
+  whole =
+      ap₂ (λ l m. l ++ bytes_of (defined.child i m)) f p ∙ append_assoc now E (bytes_of (defined.child i y)) ∙ ap (λ l. now ++ l) (sym e)
 
-  pub push-second : length now + length all ≤ 1016 → (now₁ : List ℕ) → now₁ ≡ now ++ bytes_of (defined.child i x)
-      → length now₁ + length (bytes_of (defined.child j z)) ≤ 1016
-  push-second h now₁ f =
-      let a = ap length same-entries in
-      let b = length-append (bytes_of (defined.child i x)) (bytes_of (defined.child j z)) in
-      let c = ap length f in
-      let d = length-append now (bytes_of (defined.child i x)) in
-      omega arith
+  pub push-last : length now + length all ≤ 1016 → length now₁ + length (bytes_of (defined.child i x)) ≤ 1016
+  push-last h = let a = ap length whole in let b = length-append now₁ (bytes_of (defined.child i x)) in let c = length-append now all in omega arith
 
-  pub push-both : (now₁ : List ℕ) → now₁ ≡ now ++ bytes_of (defined.child i x) → (now₂ : List ℕ) → now₂ ≡ now₁ ++ bytes_of (defined.child j z) → now₂ ≡ now ++ all
-  push-both now₁ f now₂ g =
-      g ∙ ap (λ l. l ++ bytes_of (defined.child j z)) f ∙ append_assoc now (bytes_of (defined.child i x)) (bytes_of (defined.child j z))
-      ∙ ap (λ l. now ++ l) same-entries
-
-pub rest-fits : (m n : ℕ) (parts : Parts) → parts ≡ Parts.Rest n → PartsFit m parts → n ≤ m
-unfolding PartsFit
-rest-fits m n parts e h = subst (PartsFit m) e h
-
-pub both-fits : (m n : ℕ) (parts : Parts) → parts ≡ Parts.Both n → PartsFit m parts → n ≤ m
-unfolding PartsFit
-both-fits m n parts e h = subst (PartsFit m) e h
+  pub push-behind : (now₂ : List ℕ) → now₂ ≡ now₁ ++ bytes_of (defined.child i x) → now₂ ≡ now ++ all
+  push-behind now₂ q = q ∙ whole
 
 -- A NODE, IF THERE ARE ENTRIES
 module _ (n h : ℕ) (body s : List ℕ) where
@@ -186,26 +177,18 @@ module _ (size level : ℕ) (rks : List Branch) (hi k : List ℕ) (below : Parts
       narrow-done n en s s₁ f = f ∙ (λ i. over_body (en i) level (narrow-page i) s)
 
 -- WHETHER THERE ARE ENTRIES
-pub one-some : (d : ℕ) (ks : List Branch) (b : Bool) (body : List ℕ) → body ≡ all_line d ks → b ≡ not (eqb (length body) 0) → b ≡ true → Parts.Edge ≡ one_node ks
+pub one-told : (d : ℕ) (ks : List Branch) (b : Bool) (body : List ℕ) → body ≡ all_line d ks → b ≡ not (eqb (length body) 0)
+    → ◌≡◌ {A = Parts} (record { edge = b; rest = None }) (one_node ks)
 unfolding one_node
-one-some d [] b body e t f =
-    let z : eqb (length body) 0 ≡ true = eq-eqb (length body) 0 (ap length e ∙ empty) in
-    let y : true ≡ false = sym f ∙ t ∙ ap not z in
-    absurd (true≢false y)
+one-told d [] b body e t = let z : b ≡ false = t ∙ ap not (eq-eqb (length body) 0 (ap length e ∙ empty)) in rw z
   where
     empty : length (all_line d []) ≡ 0
     empty = unfold all_line in refl
-one-some d (c ∷ cs) b body e t f = refl
-
-pub one_none : (d : ℕ) (ks : List Branch) (b : Bool) (body : List ℕ) → body ≡ all_line d ks → b ≡ not (eqb (length body) 0) → b ≡ false → Parts.Nothing ≡ one_node ks
-unfolding one_node
-one_none d [] b body e t f = refl
-one_none d (c ∷ cs) b body e t f =
+one-told d (c ∷ cs) b body e t =
     let a = all-long d (c ∷ cs) in
     let l = ap length e in
-    let z : eqb (length body) 0 ≡ false = ne_eqb (length body) 0 (λ q. omega arith) in
-    let y : false ≡ true = sym f ∙ t ∙ ap not z in
-    absurd (false≢true y)
+    let z : b ≡ true = t ∙ ap not (ne_eqb (length body) 0 (λ q. omega arith)) in
+    rw z
 
 -- WHAT IS TOLD OF TWO NODES
 module _ (hi k : List ℕ) (below : Parts) (out : List ℕ) (at : ℕ) (free lift : List ℕ) where
@@ -214,34 +197,37 @@ module _ (hi k : List ℕ) (below : Parts) (out : List ℕ) (at : ℕ) (free lif
 
   edge-told : (out' : List ℕ) (p : Parts) → raise_branches lift (head_branch (fresh_in free at) k (pieces_in (fresh_in free (at + 2)) (fresh_in free (at + 3)) k out p) ++ [])
       ≡ pieces_in (fresh_in free at) (fresh_in free (at + 1)) (lift ++ k) out' (edge_only p)
-  unfolding pieces_in head_branch raise_branches edge_only
-  edge-told out' Parts.Nothing = refl
-  edge-told out' Parts.Edge = refl
-  edge-told out' (Parts.Rest n) = refl
-  edge-told out' (Parts.Both n) = refl
-
-  edge-fit : (m : ℕ) (p : Parts) → PartsFit m (edge_only p)
-  unfolding PartsFit edge_only
-  edge-fit m Parts.Nothing = tt
-  edge-fit m Parts.Edge = tt
-  edge-fit m (Parts.Rest n) = tt
-  edge-fit m (Parts.Both n) = tt
+  unfolding pieces_in edge_piece rest_piece head_branch raise_branches edge_only has_any
+  edge-told out' p = go p.edge p.rest
+    where
+      go : (e : Bool) (r : Option ℕ)
+          → raise_branches lift (head_branch (fresh_in free at) k (edge_piece (fresh_in free (at + 2)) k e ++ rest_piece (fresh_in free (at + 3)) out r) ++ [])
+          ≡ edge_piece (fresh_in free at) (lift ++ k) (e || is_some r) ++ []
+      go true r = refl
+      go false None = refl
+      go false (Some n) = refl
 
   rest-told : (x out' : List ℕ) (n : ℕ) (p : Parts) → take n out' ≡ lift ++ x
       → raise_branches lift (head_branch (fresh_in free at) k (pieces_in (fresh_in free (at + 2)) (fresh_in free (at + 3)) k out p) ++ (branch (fresh_in free (at + 1)) x ∷ []))
       ≡ pieces_in (fresh_in free at) (fresh_in free (at + 1)) (lift ++ k) out' (with_rest n p)
-  unfolding pieces_in head_branch raise_branches with_rest
-  rest-told x out' n Parts.Nothing e = ap (λ l. branch (fresh_in free (at + 1)) l ∷ []) (sym e)
-  rest-told x out' n Parts.Edge e = ap (λ l. branch (fresh_in free at) (lift ++ k) ∷ (branch (fresh_in free (at + 1)) l ∷ [])) (sym e)
-  rest-told x out' n (Parts.Rest m) e = ap (λ l. branch (fresh_in free at) (lift ++ k) ∷ (branch (fresh_in free (at + 1)) l ∷ [])) (sym e)
-  rest-told x out' n (Parts.Both m) e = ap (λ l. branch (fresh_in free at) (lift ++ k) ∷ (branch (fresh_in free (at + 1)) l ∷ [])) (sym e)
+  unfolding pieces_in edge_piece rest_piece head_branch raise_branches with_rest has_any
+  rest-told x out' n p h = go p.edge p.rest
+    where
+      go : (e : Bool) (r : Option ℕ)
+          → raise_branches lift (head_branch (fresh_in free at) k (edge_piece (fresh_in free (at + 2)) k e ++ rest_piece (fresh_in free (at + 3)) out r)
+          ++ (branch (fresh_in free (at + 1)) x ∷ []))
+          ≡ edge_piece (fresh_in free at) (lift ++ k) (e || is_some r) ++ (branch (fresh_in free (at + 1)) (take n out') ∷ [])
+      go true r = ap (λ l. branch (fresh_in free at) (lift ++ k) ∷ (branch (fresh_in free (at + 1)) l ∷ [])) (sym h)
+      go false None = ap (λ l. branch (fresh_in free (at + 1)) l ∷ []) (sym h)
+      go false (Some m) = ap (λ l. branch (fresh_in free at) (lift ++ k) ∷ (branch (fresh_in free (at + 1)) l ∷ [])) (sym h)
+
+  edge-fit : (m : ℕ) (p : Parts) → PartsFit m (edge_only p)
+  unfolding edge_only
+  edge-fit m p = tt
 
   rest-fit : (m n : ℕ) (p : Parts) → n ≤ m → PartsFit m (with_rest n p)
-  unfolding PartsFit with_rest
-  rest-fit m n Parts.Nothing h = h
-  rest-fit m n Parts.Edge h = h
-  rest-fit m n (Parts.Rest i) h = h
-  rest-fit m n (Parts.Both i) h = h
+  unfolding with_rest
+  rest-fit m n p h = h
 
   pub both-pieces : (l : List Branch) (out' : List ℕ) (r : Parts) → both_told l below lift out' r
       → (raise_branches lift (head_branch (fresh_in free at) k (pieces_in (fresh_in free (at + 2)) (fresh_in free (at + 3)) k out below) ++ head_branch (fresh_in free (at + 1)) (branch_high hi l) l)
@@ -272,6 +258,14 @@ module _ (l : List Branch) (below : Parts) (lift out : List ℕ) (r : Parts) whe
       → take (length lift + length c.pivot) out ≡ lift ++ c.pivot → both_told l below lift out r
   unfolding both_told
   told-rest c cs some e h q = subst (λ z. both_told z below lift out r) (sym some) (e, h, q)
+
+pub edge-is : (p : Parts) (b : Bool) → b ≡ has_any p → ◌≡◌ {A = Parts} (record { edge = b; rest = None }) (edge_only p)
+unfolding edge_only
+edge-is p b e = λ i. record { edge = e i; rest = None }
+
+pub rest-is : (p : Parts) (n : ℕ) (b : Bool) → b ≡ has_any p → ◌≡◌ {A = Parts} (record { edge = b; rest = Some n }) (with_rest n p)
+unfolding with_rest
+rest-is p n b e = λ i. record { edge = e i; rest = Some n }
 
 -- the first child's pivot is no longer than the entries of all
 pub first-short : (l : List Branch) (c : Branch) (cs : List Branch) → l ≡ c ∷ cs → length (all_line 0 l) ≤ 1016 → length c.pivot ≤ 1016

@@ -1,6 +1,6 @@
 -- The part of a node from a cut on, by the point where the cut falls: its pieces, which are at most two, and the entries of their pages.
 -- Definitions only.
-use Rattle.std.specs.Prelude.{ℕ, ◌+◌, ◌*◌, ◌<◌, ◌≤◌, ◌≡◌, List, [], ◌∷◌, ◌++◌, Bool, true, cond, length, take, drop, eqb}
+use Rattle.std.specs.Prelude.{ℕ, ◌+◌, ◌*◌, ◌<◌, ◌≤◌, ◌≡◌, List, [], ◌∷◌, ◌++◌, Bool, true, false, ◌||◌, cond, length, take, drop, eqb, Option, None, Some, is_some, MatchOption}
 use Rattle.image.specs.Bytes.{before, shared}
 use Rattle.image.specs.Entry as defined
 use Rattle.image.specs.Image.{Tree, Forest, end, Branch, nodes_of, tree_at}
@@ -33,17 +33,25 @@ right_at fresh w under h k at s (between n low) = s
 right_at fresh w under h k at s (nowhere n) = s
 
 -- what the code answers: the pieces with the first two numbers from `at` on, the pivot of the second in a buffer
-unfoldable pub pieces_in : ℕ → ℕ → List ℕ → List ℕ → Parts → List Branch
-pieces_in a b k out Parts.Nothing = []
-pieces_in a b k out Parts.Edge = branch a k ∷ []
-pieces_in a b k out (Parts.Rest n) = branch b (take n out) ∷ []
-pieces_in a b k out (Parts.Both n) = branch a k ∷ (branch b (take n out) ∷ [])
+unfoldable pub edge_piece : ℕ → List ℕ → Bool → List Branch
+edge_piece a k true = branch a k ∷ []
+edge_piece a k false = []
 
-unfoldable pub PartsFit : ℕ → Parts → Type 0
-PartsFit m Parts.Nothing = Unit
-PartsFit m Parts.Edge = Unit
-PartsFit m (Parts.Rest n) = n ≤ m
-PartsFit m (Parts.Both n) = n ≤ m
+unfoldable pub rest_piece : ℕ → List ℕ → Option ℕ → List Branch
+rest_piece b out None = []
+rest_piece b out (Some n) = branch b (take n out) ∷ []
+
+unfoldable pub pieces_in : ℕ → ℕ → List ℕ → List ℕ → Parts → List Branch
+pieces_in a b k out p = edge_piece a k p.edge ++ rest_piece b out p.rest
+
+abbrev pub PartsFit : ℕ → Parts → Type 0
+PartsFit m p = MatchOption p.rest Unit (λ n. n ≤ m)
+
+abbrev pub no_parts : Parts
+no_parts = record { edge = false; rest = None }
+
+abbrev pub edge_part : Parts
+edge_part = record { edge = true; rest = None }
 
 unfoldable pub raise_branches : List ℕ → List Branch → List Branch
 raise_branches l [] = []
@@ -66,18 +74,15 @@ two_body n m h d e eks rks s = over_body m h (all_line e rks) (over_body n h (al
 unfoldable pub wide_body : ℕ → ℕ → ℕ → List ℕ → List ℕ → List ℕ → List Branch → List Branch → List ℕ → List ℕ
 wide_body n m h k hi x eks rks s = two_body n m h (length (shared k x)) (length (shared x hi)) eks rks s
 
--- the answer of a node, by that of its child, with a rest and without
+-- whether there are pieces, and the answer of a node, by that of its child, with a rest and without
+unfoldable pub has_any : Parts → Bool
+has_any p = p.edge || is_some p.rest
+
 unfoldable pub with_rest : ℕ → Parts → Parts
-with_rest n Parts.Nothing = Parts.Rest n
-with_rest n Parts.Edge = Parts.Both n
-with_rest n (Parts.Rest m) = Parts.Both n
-with_rest n (Parts.Both m) = Parts.Both n
+with_rest n p = record { edge = has_any p; rest = Some n }
 
 unfoldable pub edge_only : Parts → Parts
-edge_only Parts.Nothing = Parts.Nothing
-edge_only Parts.Edge = Parts.Edge
-edge_only (Parts.Rest m) = Parts.Edge
-edge_only (Parts.Both m) = Parts.Edge
+edge_only p = record { edge = has_any p; rest = None }
 
 -- what is told of an edge and of a rest over these children: without a rest, and with one, whose pivot is in the buffer
 unfoldable pub both_told : List Branch → Parts → List ℕ → List ℕ → Parts → Type 0
@@ -88,8 +93,8 @@ both_told (c ∷ cs) below lift out r =
 
 -- the one piece of a node over these children
 unfoldable pub one_node : List Branch → Parts
-one_node [] = Parts.Nothing
-one_node (c ∷ cs) = Parts.Edge
+one_node [] = no_parts
+one_node (c ∷ cs) = edge_part
 
 unfoldable pub head_branch : ℕ → List ℕ → List Branch → List Branch
 head_branch n lo [] = []

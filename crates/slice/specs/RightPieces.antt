@@ -13,7 +13,7 @@ use Rattle.slice.specs.Slicing.Slice.{packed}
 use Rattle.slice.specs.Slicing.SliceFits.{fits_in}
 use Rattle.slice.specs.Slicing.RightWrite.{over_write, packed_write, fits-parts}
 use Rattle.slice.specs.Point.{Point, within, between, nowhere, point_of}
-use Rattle.slice.specs.Right.{pieces_in, PartsFit, raise_branches, all_line, over_body, two_body, wide_body, one_node, head_branch}
+use Rattle.slice.specs.Right.{edge_piece, rest_piece, pieces_in, PartsFit, raise_branches, all_line, over_body, two_body, wide_body, one_node, head_branch}
 use Rattle.slice.specs.RightLaws.{branches-joined, over-body, over-fits}
 
 -- CHILDREN OF A PIECE
@@ -62,12 +62,12 @@ write-narrow-is h n m k hi e r s =
     over-body n h k hi (joined e r) s ∙ ap (λ q. over_body n h (all_line (length (shared k hi)) q) s) (branches-joined e r)
 
 pub one_told : (n m : ℕ) (lift k out : List ℕ) (ks : List Branch) → raise_branches lift (head_branch n k ks) ≡ pieces_in n m (lift ++ k) out (one_node ks)
-unfolding head_branch raise_branches pieces_in one_node
+unfolding head_branch raise_branches pieces_in edge_piece rest_piece one_node
 one_told n m lift k out [] = refl
 one_told n m lift k out (c ∷ cs) = refl
 
 pub one-fit : (m : ℕ) (ks : List Branch) → PartsFit m (one_node ks)
-unfolding PartsFit one_node
+unfolding one_node
 one-fit m [] = tt
 one-fit m (c ∷ cs) = tt
 

@@ -31,7 +31,7 @@ use Rattle.slice.specs.declared.Parts.{Parts}
 use Rattle.slice.specs.Point.{Point, within, between, nowhere, fresh_in, point_of, Holds, Misses, side_line}
 use Rattle.slice.specs.PointLaws.{side-line}
 use Rattle.slice.specs.Left.{from}
-use Rattle.slice.specs.Right.{rest_of, edge_at, right_at, pieces_in, PartsFit, raise_branches, all_line, over_body, wide_body, both_told, one_node, head_branch, RightAsks, RightAs, EdgeAs, WideAsks, NarrowAsks}
+use Rattle.slice.specs.Right.{rest_of, edge_at, right_at, edge_piece, rest_piece, pieces_in, no_parts, edge_part, PartsFit, raise_branches, all_line, over_body, wide_body, both_told, one_node, head_branch, RightAsks, RightAs, EdgeAs, WideAsks, NarrowAsks}
 use Rattle.slice.specs.PieceSteps.{both-pieces}
 use Rattle.slice.specs.RightLaws.{rest-is, edge-is, edge-write, branches-raise, branches-forest, among-short, rest-short, rest-small}
 use Rattle.slice.specs.RightPieces.{packed-wide, packed-narrow, wide_fits, narrow-fits, write-wide-is, write-narrow-is, one_told, one-fit, PointIs, point-is}
@@ -95,16 +95,16 @@ module _ (w : Bool) (s : List ℕ) (num level : ℕ) (lo hi k : List ℕ) (at : 
           shown = unfold right_write page_of fresh_in in rw (bare, under_none leaf'.rs)
 
       pub leaf-done : (lift out : List ℕ) (new : ℕ) (s' : List ℕ) → new ≡ get_or free at 0 → s' ≡ write_node s new (page 1 1 (side_line (since k) d es))
-          → RightAs w (tree_at level s num) level lo hi k at free lift s s' out Parts.Edge
+          → RightAs w (tree_at level s num) level lo hi k at free lift s s' out edge_part
       leaf-done lift out new s' e q =
           record {
             written = leaf-written new s' e q;
             pieces = ap (λ f. raise_branches lift (branches_of f)) part-is ∙ shown;
-            fit = unfold PartsFit in tt;
+            fit = tt;
           }
         where
-          shown : raise_branches lift (branches_of (tree k (leaf (fresh_in free at) kept) end)) ≡ pieces_in (fresh_in free at) (fresh_in free (at + 1)) (lift ++ k) out Parts.Edge
-          shown = unfold raise_branches branches_of pieces_in number_of in refl
+          shown : raise_branches lift (branches_of (tree k (leaf (fresh_in free at) kept) end)) ≡ pieces_in (fresh_in free at) (fresh_in free (at + 1)) (lift ++ k) out edge_part
+          shown = unfold raise_branches branches_of pieces_in edge_piece rest_piece number_of in refl
 
     -- an interior node
     module _ (inner : 2 ≤ level) (ks : List Branch) (among : ks ≡ branches_among es) (rks : List Branch) (at_rest : rks ≡ rest_of ks hi k) where
@@ -437,8 +437,8 @@ module _ (w : Bool) (s k : List ℕ) (level at : ℕ) (free : List ℕ) (x : Poi
         fit = ans.fit;
       })
 
-pub missed-answer : (w : Bool) (s k : List ℕ) (level at : ℕ) (free : List ℕ) (x : Point) → Misses x → (out : List ℕ) → EdgeAs w level k at free s s out x Parts.Nothing
-unfolding Misses right_at edge_at branches_of pieces_in PartsFit
+pub missed-answer : (w : Bool) (s k : List ℕ) (level at : ℕ) (free : List ℕ) (x : Point) → Misses x → (out : List ℕ) → EdgeAs w level k at free s s out x no_parts
+unfolding Misses right_at edge_at branches_of pieces_in edge_piece rest_piece
 missed-answer w s k level at free (within n i low high) h out = absurd h
 missed-answer w s k level at free (between n low) h out = record { written = refl; pieces = refl; fit = tt }
 missed-answer w s k level at free (nowhere n) h out = record { written = refl; pieces = refl; fit = tt }

@@ -16,18 +16,27 @@ ghost use Rattle.image.specs.Image.{tree_at};
 ghost use Rattle.slice.specs.Slicing.SliceWrite.{left_write};
 ghost use Rattle.slice.specs.Point.{fresh_in};
 ghost use Rattle.slice.specs.Left.{LeftAsks};
+ghost use Rattle.slice.specs.Right.{has_any};
 
 use node::branches::{Branch, Branches};
 use node::entries::Entries;
 use node::page::Page;
 
-// The pieces of a right part: an edge, whose pivot is the cut, and a rest, whose pivot is that many bytes of a buffer.
+// The pieces of a right part: whether there is an edge, whose pivot is the cut; and of a rest, if there is one, how many bytes of a buffer its pivot is.
 #[derive(Clone, Copy)]
-pub enum Parts {
-    Nothing,
-    Edge,
-    Rest(usize),
-    Both(usize),
+pub struct Parts {
+    pub edge: bool,
+    pub rest: Option<usize>,
+}
+
+impl Parts {
+    // Whether there are any.
+    #[tactic(auto, unfolding(crate::specs::Right::has_any))]
+    fn has_any(self) -> bool
+        ensures { result ≡ has_any self }
+    {
+        self.edge || self.rest.is_some()
+    }
 }
 
 // Where the part of a tree goes: the level of its root, and the place of its first number in the list of free nodes.

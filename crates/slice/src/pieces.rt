@@ -25,15 +25,12 @@ pub fn emit_parts(page: &mut Page, pieces: Numbered, k: &[u8], out: &[u8], d: us
         × (pieces.rest < 65536) }
     ensures { page.new ≡ page.old ++ all_line d (pieces_in pieces.edge pieces.rest k.now out.now pieces.parts) }
 {
-    let edge = Entry::Child(pieces.edge, past(k, d));
-    match pieces.parts {
-        Parts::Nothing => {}
-        Parts::Edge => page.push(edge),
-        Parts::Rest(n) => page.push(Entry::Child(pieces.rest, past(&out[..n], d))),
-        Parts::Both(n) => {
-            page.push(edge);
-            page.push(Entry::Child(pieces.rest, past(&out[..n], d)));
-        }
+    let parts = pieces.parts;
+    if parts.edge {
+        page.push(Entry::Child(pieces.edge, past(k, d)));
+    }
+    if let Some(n) = parts.rest {
+        page.push(Entry::Child(pieces.rest, past(&out[..n], d)));
     }
 }
 

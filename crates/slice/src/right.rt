@@ -1,48 +1,19 @@
 // The part of a tree from a cut on: wide, an edge and a rest a level; narrow, one node a level. Everything is told from inside the parent. Relies on
 // pieces, branches and pairs (which write the pages), on point, on push (the copy of a node), on node and on octets; `right_write` of specs/Slicing says
 // what is written.
-ghost use Rattle.std.specs.Prelude.{◌≡◌, [], ◌++◌, ◌+◌, ◌*◌, ◌<◌, ◌≤◌, length, take};
+ghost use Rattle.std.specs.Prelude.{◌≡◌, [], ◌++◌, ◌+◌, ◌*◌, ◌<◌, ◌≤◌, length};
 ghost use Rattle.image.specs.Bytes.{shared};
 ghost use Rattle.image.specs.Image.{tree_at};
 ghost use Rattle.laws.specs.Reading.Relative.{branch_high};
 ghost use Rattle.node.specs.Spans.{pending_of};
 ghost use Rattle.slice.specs.Point.{fresh_in};
-ghost use Rattle.slice.specs.Right.{RightAsks, RightAs, WideAsks, NarrowAsks, pieces_in, wide_body, both_told, all_line, over_body, with_rest, edge_only, one_node};
+ghost use Rattle.slice.specs.Right.{RightAsks, RightAs, WideAsks, NarrowAsks, pieces_in, wide_body, both_told, all_line, over_body, one_node};
 
 use crate::pieces::Numbered;
 use crate::{Parts, Slot, branches, pairs, pieces, point};
 use node::branches::{Branch, Branches};
 use node::entries::Entries;
 use node::page::Page;
-
-// The answer with a rest, whose pivot is left in the buffer behind what is lifted.
-fn tell_rest(below: Parts, lift: &[u8], pivot: &[u8], out: &mut [u8]) -> Parts
-    requires { length lift.now + length pivot.now ≤ length out.old }
-    ensures { (result ≡ with_rest (length lift.now + length pivot.now) below)
-        × (take (length lift.now + length pivot.now) out.new ≡ lift.now ++ pivot.now) }
-{
-    let a = lift.len();
-    let n = a + pivot.len();
-    octets::copy_at(out, 0, lift);
-    octets::copy_at(out, a, pivot);
-    match below {
-        Parts::Nothing => Parts::Rest(n),
-        Parts::Edge => Parts::Both(n),
-        Parts::Rest(_) => Parts::Both(n),
-        Parts::Both(_) => Parts::Both(n),
-    }
-}
-
-fn tell_edge(below: Parts) -> Parts
-    ensures { result ≡ edge_only below }
-{
-    match below {
-        Parts::Nothing => Parts::Nothing,
-        Parts::Edge => Parts::Edge,
-        Parts::Rest(_) => Parts::Edge,
-        Parts::Both(_) => Parts::Edge,
-    }
-}
 
 // The pieces of a child with the numbers that they take: the edge's at a place of the list of free nodes, the rest's behind it.
 fn number_pieces(parts: Parts, free: &[u16], at: usize) -> Numbered
@@ -103,9 +74,17 @@ fn tell_both(children: Branches, below: Parts, lift: &[u8], out: &mut [u8]) -> P
     requires { (length (all_line 0 (pending_of children)) ≤ 1016) × (length lift.now + 1024 ≤ length out.old) }
     ensures { both_told (pending_of children.entry) below lift.now out.new result }
 {
-    match children.front {
-        Some((_, pivot)) => tell_rest(below, lift, pivot, out),
-        None => tell_edge(below),
+    let edge = below.has_any();
+    let Some((_, pivot)) = children.front else {
+        return Parts { edge, rest: None };
+    };
+    let n = lift.len();
+    let end = n + pivot.len();
+    octets::copy_at(out, 0, lift);
+    octets::copy_at(out, n, pivot);
+    Parts {
+        edge,
+        rest: Some(end),
     }
 }
 
@@ -136,10 +115,8 @@ fn write_narrow(
     let d = octets::common_length(k, children.high);
     pieces::emit_parts(&mut page, numbered, k, out, d);
     branches::emit_branches(&mut page, children, d);
-    if pieces::write_some(page, store, free[at] as usize, level) {
-        return Parts::Edge;
-    }
-    Parts::Nothing
+    let edge = pieces::write_some(page, store, free[at] as usize, level);
+    Parts { edge, rest: None }
 }
 
 // The part of a child's tree from a cut k on, which lies strictly inside it. Tells its pieces: the pivot of a rest is left in the buffer.
@@ -166,7 +143,10 @@ pub fn slice_right(
         let new = free[at] as usize;
         let d = octets::common_length(cut, high);
         pairs::write_pairs(store, new, entries, |own| !octets::precedes(own, cut), d);
-        return Parts::Edge;
+        return Parts {
+            edge: true,
+            rest: None,
+        };
     }
     let (held, rest) = point::split_children(Branches::among(entries, high), cut);
     let inner = Slot {
@@ -175,7 +155,10 @@ pub fn slice_right(
     };
     let below = match held {
         Some(inside) => slice_right(store, inside, inner, wide, cut, free, out),
-        None => Parts::Nothing,
+        None => Parts {
+            edge: false,
+            rest: None,
+        },
     };
     if wide {
         write_wide(store, slot, rest, below, cut, out, free);

@@ -1,37 +1,51 @@
--- `emit_parts` meets its contract, by which pieces there are. Relies on specs/PieceSteps and push/specs/WriteSteps.
-use Rattle.std.specs.Prelude.{length}
-use Rattle.image.specs.Prelude.{sym, length-take-le}
-use Rattle.slice.specs.PieceSteps.{pieces_none, pieces-edge, pieces-rest, pieces-both, rest-fits, both-fits, push-fits, push-on, push-first, push-second, push-both, push-nothing}
+-- `emit_parts` meets its contract: the edge, if there is one, then the rest, if there is one. Relies on specs/PieceSteps.
+use Rattle.std.specs.Prelude.{◌++◌, ◌≡◌}
+use Rattle.image.specs.Prelude.{sym, ap, ◌∙◌, append-nil}
+use Rattle.slice.specs.Right.{all_line, edge_piece, rest_piece}
+use Rattle.slice.specs.PieceSteps.{pieces-line, edge-yes, edge-no, rest-yes, rest-no, push-first, push-on, push-nothing, push-last, push-behind}
+use Rattle.slice.proofs.pieces.emit_parts.Goals.{then-parts, else-parts}
 use Rattle.slice.proofs.pieces.emit_parts.Goals as goal
 
 pub push-requires : goal.push-requires
-push-requires c = (push-fits _ _ _ _ _ (pieces-edge _ _ _ _ _ _ c.in-Edge.is) c.past.ensures c.requires.1, c.requires.2)
+push-requires c = (
+  push-first _ _ _ _ _ _ (pieces-line _ _ _ _ _ _ ∙ ap (λ l. l ++ all_line c.args.d (rest_piece c.args.pieces.rest c.args.out.now c.args.pieces.parts.rest)) (edge-yes _ _ _ _ c.if-parts.true))
+      c.past.ensures c.requires.1,
+  c.requires.2,
+)
 
-pub slice_bounds-past-end : goal.slice_bounds-past-end
-slice_bounds-past-end c = sym (length-take-le c.in-Rest.n c.args.out.now (rest-fits (length c.args.out.now) _ c.args.pieces.parts c.in-Rest.is c.requires.0))
+pub push-requires-in-Some : goal.push-requires-in-Some
+push-requires-in-Some c =
+    let first : c.if-parts.page ≡ c.args.page.now ++ all_line c.args.d (edge_piece c.args.pieces.edge c.args.k.now c.args.pieces.parts.edge) =
+    elim c.if-parts.branch [
+      | then-parts w ↦ w.page-is ∙ push-on _ _ _ _ _ (edge-yes _ _ _ _ w.if-parts.true) w.past.ensures _ w.push.ensures
+      | else-parts w ↦ w.page-is ∙ push-nothing _ _ (edge-no _ _ _ _ w.if-parts.false)
+    ] in (
+      push-last _ _ _ _ _ _ _ first
+          (pieces-line _ _ _ _ _ _ ∙ ap (λ l. all_line c.args.d (edge_piece c.args.pieces.edge c.args.k.now c.args.pieces.parts.edge) ++ l) (rest-yes _ _ _ _ _ c.in-Some.is))
+          c.past-in-Some.ensures c.requires.1,
+      c.requires.3,
+    )
 
-pub push-requires-in-Rest : goal.push-requires-in-Rest
-push-requires-in-Rest c = (push-fits _ _ _ _ _ (pieces-rest _ _ _ _ _ _ _ c.in-Rest.is) c.past-in-Rest.ensures c.requires.1, c.requires.3)
+pub returns-in-Some : goal.returns-in-Some
+returns-in-Some c =
+    let first : c.if-parts.page ≡ c.args.page.now ++ all_line c.args.d (edge_piece c.args.pieces.edge c.args.k.now c.args.pieces.parts.edge) =
+    elim c.if-parts.branch [
+      | then-parts w ↦ w.page-is ∙ push-on _ _ _ _ _ (edge-yes _ _ _ _ w.if-parts.true) w.past.ensures _ w.push.ensures
+      | else-parts w ↦ w.page-is ∙ push-nothing _ _ (edge-no _ _ _ _ w.if-parts.false)
+    ] in
+    push-behind _ _ _ _ _ _ _ first
+    (pieces-line _ _ _ _ _ _ ∙ ap (λ l. all_line c.args.d (edge_piece c.args.pieces.edge c.args.k.now c.args.pieces.parts.edge) ++ l) (rest-yes _ _ _ _ _ c.in-Some.is))
+    c.past-in-Some.ensures _ c.push-in-Some.ensures
 
-pub push-requires-in-Both : goal.push-requires-in-Both
-push-requires-in-Both c = (push-first _ _ _ _ _ _ (pieces-both _ _ _ _ _ _ _ c.in-Both.is) c.past.ensures c.requires.1, c.requires.2)
-
-pub slice_bounds-past-end-in-Both : goal.slice_bounds-past-end-in-Both
-slice_bounds-past-end-in-Both c = sym (length-take-le c.in-Both.n c.args.out.now (both-fits (length c.args.out.now) _ c.args.pieces.parts c.in-Both.is c.requires.0))
-
-pub push-requires-in-Both-2 : goal.push-requires-in-Both-2
-push-requires-in-Both-2 c =
-    (push-second _ _ _ _ _ _ _ _ (pieces-both _ _ _ _ _ _ _ c.in-Both.is) c.past.ensures c.past-in-Both.ensures c.requires.1 _ c.push-in-Both.ensures, c.requires.3)
-
-pub returns-in-Nothing : goal.returns-in-Nothing
-returns-in-Nothing c = push-nothing _ _ (pieces_none _ _ _ _ _ _ c.in-Nothing.is)
-
-pub returns-in-Edge : goal.returns-in-Edge
-returns-in-Edge c = push-on _ _ _ _ _ (pieces-edge _ _ _ _ _ _ c.in-Edge.is) c.past.ensures _ c.push.ensures
-
-pub returns-in-Rest : goal.returns-in-Rest
-returns-in-Rest c = push-on _ _ _ _ _ (pieces-rest _ _ _ _ _ _ _ c.in-Rest.is) c.past-in-Rest.ensures _ c.push-in-Rest.ensures
-
-pub returns-in-Both : goal.returns-in-Both
-returns-in-Both c =
-    push-both _ _ _ _ _ _ _ _ (pieces-both _ _ _ _ _ _ _ c.in-Both.is) c.past.ensures c.past-in-Both.ensures _ c.push-in-Both.ensures _ c.push-in-Both-2.ensures
+pub returns-in_default : goal.returns-in_default
+returns-in_default c =
+    let first : c.if-parts.page ≡ c.args.page.now ++ all_line c.args.d (edge_piece c.args.pieces.edge c.args.k.now c.args.pieces.parts.edge) =
+    elim c.if-parts.branch [
+      | then-parts w ↦ w.page-is ∙ push-on _ _ _ _ _ (edge-yes _ _ _ _ w.if-parts.true) w.past.ensures _ w.push.ensures
+      | else-parts w ↦ w.page-is ∙ push-nothing _ _ (edge-no _ _ _ _ w.if-parts.false)
+    ] in
+    first
+    ∙ ap (λ l. c.args.page.now ++ l)
+    (sym (append-nil (all_line c.args.d (edge_piece c.args.pieces.edge c.args.k.now c.args.pieces.parts.edge)))
+    ∙ ap (λ l. all_line c.args.d (edge_piece c.args.pieces.edge c.args.k.now c.args.pieces.parts.edge) ++ l) (sym (rest-no _ _ _ _ c.in_default.is))
+    ∙ sym (pieces-line _ _ _ _ _ _))

@@ -30,7 +30,7 @@ pub fn follows_on(previous: Option<&[u8]>, lo: &[u8], key: &[u8]) -> bool
 pub fn row_good(previous: Option<&[u8]>, key: &[u8], value: &[u8], lo: &[u8], sh: Shape) -> bool
     ensures { result ≡ row_next (shape_is sh) lo.now (value_is previous.entry) key.now value.now }
 {
-    value.len() <= image::VALUE_LIMIT && follows_on(previous, lo, key) && path::goes_on(sh, key)
+    follows_on(previous, lo, key) && path::goes_on(sh, key) && value.len() <= image::VALUE_LIMIT
 }
 
 // Whether the last key, if there is one, is below the high pivot.

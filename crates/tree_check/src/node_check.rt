@@ -45,7 +45,7 @@ pub fn ends_below(previous: Option<&[u8]>, hi: &[u8]) -> bool
 }
 
 // Whether bytes are the pairs of a sound leaf, and how many. Its keys rise, so that only the first is held against the low pivot, and only the last
-// against the high one.
+// against the high one. Each has to read, up to the last byte: node's iterator would end alike where one does not.
 pub fn check_leaf(entries: &[u8], lo: &[u8], hi: &[u8], sh: Shape) -> Option<usize>
     ensures { Counts (leaf_run (shape_is sh) lo.now hi.now none (entries_of entries.now)) (length (list_of entries.now)) result }
 {
@@ -85,7 +85,7 @@ pub fn message_good(message: Message, lo: &[u8], hi: &[u8], sh: Shape) -> bool
     }
 }
 
-// Whether bytes are sound messages, and how many.
+// Whether bytes are sound messages, and how many. Each has to read, as in check_leaf.
 pub fn check_messages(entries: &[u8], lo: &[u8], hi: &[u8], sh: Shape) -> Option<usize>
     ensures { Counts (messages_run (shape_is sh) lo.now hi.now (entries_of entries.now)) (length (list_of entries.now)) result }
 {

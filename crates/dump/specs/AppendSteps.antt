@@ -15,9 +15,6 @@ use Rattle.node.specs.declared.entries.Entry.{Entry}
 use Rattle.packed.specs.Rows.Area.{rows_of, RowsFit}
 use Rattle.packed.specs.Build.Rows.{RowPut}
 use Rattle.live_count.specs.Live.{Shortens}
-use Rattle.live_count.specs.PathBuffers.{path_in}
-use Rattle.live_count.specs.PathSteps.{path_length}
-use Rattle.node.specs.declared.PathBuffer.{PathBuffer}
 use Rattle.live_count.specs.declared.trail.Trail.{Trail}
 use Rattle.live_count.specs.Walk.{passing}
 use Rattle.live_count.specs.Steps.{passes-short}
@@ -70,10 +67,10 @@ passing-short t q e = go (leb (length q) 64) refl
     go false f = absurd (true≢false (sym e ∙ passes-short t q (leb-false (length q) 64 f)))
 
 -- a path that passes has room in a buffer
-pub key-short : (p : PathBuffer) (t : Trail) (k : List ℕ) (b : Bool) → b ≡ passing t (path_in p ++ k) → b ≡ true → p.len ≤ length p.bytes → p.len + length k ≤ 64
-key-short p t k b e n h =
-    let a = passing-short t (path_in p ++ k) (sym e ∙ n) in
-    let c : length (path_in p ++ k) ≡ p.len + length k = length-append (path_in p) k ∙ ap (λ j. j + length k) (path_length p h) in
+pub key-short : (p : List ℕ) (t : Trail) (k : List ℕ) (b : Bool) → b ≡ passing t (p ++ k) → b ≡ true → length p + length k ≤ 64
+key-short p t k b e n =
+    let a = passing-short t (p ++ k) (sym e ∙ n) in
+    let c = length-append p k in
     omega arith
 
 keep_one : (ok : List ℕ → Bool) (r : Row) → ok r.key ≡ true → keep ok (r ∷ []) ≡ r ∷ []
@@ -84,7 +81,7 @@ keep-not : (ok : List ℕ → Bool) (r : Row) → ok r.key ≡ false → keep ok
 unfolding keep
 keep-not ok r e = rw e
 
-module _ (p : PathBuffer) (t : Trail) (k v : List ℕ) (area : List ℕ) (m : ℕ) (b : Bool) (e : b ≡ passing t (path_in p ++ k))
+module _ (p : List ℕ) (t : Trail) (k v : List ℕ) (area : List ℕ) (m : ℕ) (b : Bool) (e : b ≡ passing t (p ++ k))
     (room : Room area m (keep (passing t) (row_under p k v ∷ []))) where
   pub pair-hidden : b ≡ false → Added m area area m (keep (passing t) (row_under p k v ∷ []))
   pair-hidden n = added_none m area (keep (passing t) (row_under p k v ∷ [])) (keep-not (passing t) (row_under p k v) (sym e ∙ n)) room.fit
@@ -96,7 +93,7 @@ module _ (p : PathBuffer) (t : Trail) (k v : List ℕ) (area : List ℕ) (m : �
     pub pair-room : m * 128 + 128 ≤ length area
     pair-room = let r = room.room in let l : length (keep (passing t) (row_under p k v ∷ [])) ≡ 1 = ap length kept in omega arith
 
-    pub pair-added : (area' : List ℕ) → length area' ≡ length area → RowPut m area area' (path_in p ++ k) v → Added m area area' (m + 1) (keep (passing t) (row_under p k v ∷ []))
+    pub pair-added : (area' : List ℕ) → length area' ≡ length area → RowPut m area area' (p ++ k) v → Added m area area' (m + 1) (keep (passing t) (row_under p k v ∷ []))
     pair-added area' l put =
         record {
           fit = put.fit;
@@ -109,8 +106,8 @@ pub value-short : (v : List ℕ) → value_fits v ≡ true → length v ≤ 60
 value-short v e = let m = value_length v e in omega arith
 
 -- a pair as it is read
-module _ (p : PathBuffer) (t : Trail) (e : Entry) (k v : Bor (List ℕ)) (q : e ≡ Entry.Pair k v) where
-  pub pair-rows : keep (passing t) (under_prefix (path_in p) (pairs_among (entry_is e ∷ []))) ≡ keep (passing t) (row_under p k.now v.now ∷ [])
+module _ (p : List ℕ) (t : Trail) (e : Entry) (k v : Bor (List ℕ)) (q : e ≡ Entry.Pair k v) where
+  pub pair-rows : keep (passing t) (under_prefix p (pairs_among (entry_is e ∷ []))) ≡ keep (passing t) (row_under p k.now v.now ∷ [])
   unfolding under_prefix pairs_among
   pair-rows = rw q
 

@@ -8,13 +8,11 @@ use Rattle.image.specs.Sound.{table_of}
 use Rattle.node.specs.Search.Latest.{newest_among}
 use Rattle.packed.specs.Rows.Area.{rows_of, RowsFit}
 use Rattle.live_count.specs.Live.{holds_no_message}
-use Rattle.live_count.specs.PathBuffers.{path_in}
-use Rattle.node.specs.declared.PathBuffer.{PathBuffer}
 use Rattle.live_count.specs.Walk.{decides}
 
 -- the row of a key and a value under a prefix
-abbrev pub row_under : PathBuffer → List ℕ → List ℕ → Row
-row_under prefix k v = record { key = path_in prefix ++ k; value = v }
+abbrev pub row_under : List ℕ → List ℕ → List ℕ → Row
+row_under prefix k v = record { key = prefix ++ k; value = v }
 
 -- the pairs among entries, as stored
 unfoldable pub pairs_among : List Entry → List Row

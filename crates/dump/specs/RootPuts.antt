@@ -21,13 +21,11 @@ use Rattle.packed.specs.Rows.Area.{rows_of}
 use Rattle.packed.specs.Rows.Steps.{rows-length}
 use Rattle.live_count.specs.Live.{short}
 use Rattle.live_count.specs.LiveLaws.{all_short}
-use Rattle.live_count.specs.PathBuffers.{path_in}
-use Rattle.node.specs.declared.PathBuffer.{PathBuffer}
 use Rattle.live_count.specs.declared.position.Position.{Position}
 use Rattle.live_count.specs.Walk.{passing, Ready, ReadyBranches}
 use Rattle.live_count.specs.Noted.{AtRoot, SoundBranches}
 use Rattle.live_count.specs.Steps.{no-trail}
-use Rattle.live_count.specs.RootSteps.{countable, tree_is, empty-prefix, root_told}
+use Rattle.live_count.specs.RootSteps.{countable, tree_is, root_told}
 use Rattle.dump.specs.Insertion.Insertion.{Merged, Laid, laid}
 use Rattle.dump.specs.Dump.{Room, Added, Dumped}
 use Rattle.dump.specs.Replacing.{only_puts, put_among, puts_fit, Unset}
@@ -40,14 +38,14 @@ pub root-inside : (s : List ℕ) → sound s ≡ true → (root levels : ℕ) �
 root-inside s h root levels a b = node-inside s root levels (root-reads s h root levels a b)
 
 module _ (s : List ℕ) (h : sound s ≡ true) (num level : ℕ) (en : num ≡ u16 s 6) (el : level ≡ u16 s 8) (v : Position) (at : AtRoot v) where
-  abbrev p : PathBuffer
+  abbrev p : List ℕ
   p = v.prefix
 
   ready : Ready s level num v.trail
   ready = dump-ready s h num level en el v.trail at.trail
 
-  nothing-before : path_in p ≡ []
-  nothing-before = empty-prefix s (countable s (sound-but-live s h)) num level en el p at.prefix
+  nothing-before : p ≡ []
+  nothing-before = at.prefix
 
   tree-whole : tree_at level s num ≡ tree_of s
   tree-whole = tree_is s (countable s (sound-but-live s h)) num level en el
@@ -73,13 +71,13 @@ module _ (s : List ℕ) (h : sound s ≡ true) (num level : ℕ) (en : num ≡ u
     branches-are : branches_among (listing s num) ≡ branches
     branches-are = ap branches_among own_is ∙ sym eb
 
-    prefix-is : shared lowest highest ≡ path_in p
+    prefix-is : shared lowest highest ≡ p
     prefix-is = nothing-lifted ∙ sym nothing-before
 
-    high_is : highest ≡ path_in p ++ hi
+    high_is : highest ≡ p ++ hi
     high_is = sym eh ∙ ap (λ front. front ++ hi) (sym nothing-before)
 
-    forest-sound : sound_forest (forest branches) (path_in p) lowest (path_in p ++ hi) ≡ true
+    forest-sound : sound_forest (forest branches) p lowest (p ++ hi) ≡ true
     forest-sound =
         ap₂ (λ front y. sound_forest (forest branches) front lowest y) (sym prefix-is) (sym high_is)
         ∙ ap (λ ks. sound_forest (forest ks) (shared lowest highest) lowest highest) (sym branches-are)
@@ -95,13 +93,13 @@ module _ (s : List ℕ) (h : sound s ≡ true) (num level : ℕ) (en : num ≡ u
     children-sound =
         record {
           low = lowest;
-          sound = ap (λ l. sound_forest (forest branches) (path_in p) l (path_in p ++ hi)) (ap (λ front. front ++ lowest) nothing-before) ∙ forest-sound;
+          sound = ap (λ l. sound_forest (forest branches) p l (p ++ hi)) (ap (λ front. front ++ lowest) nothing-before) ∙ forest-sound;
           tells = root_told v lowest hi at;
         }
 
     -- the children's rows, all of them short
     abbrev Branches : List Row
-    Branches = rows_in (forest branches) (path_in p) (path_in p ++ hi)
+    Branches = rows_in (forest branches) p (p ++ hi)
 
     abbrev Kept : List Row
     Kept = keep (passing v.trail) Branches
@@ -125,7 +123,7 @@ module _ (s : List ℕ) (h : sound s ≡ true) (num level : ℕ) (en : num ≡ u
         ∙ keep_all short Branches (puts-passed short [] own Branches (ap (every_key short) with-puts ∙ table-short))
 
     kept-rises : rising Kept ≡ true
-    kept-rises = ap rising kept_all ∙ rows-rise-in (forest branches) (path_in p) lowest (path_in p ++ hi) forest-sound
+    kept-rises = ap rising kept_all ∙ rows-rise-in (forest branches) p lowest (p ++ hi) forest-sound
 
     with-kept : put_among [] own Kept ≡ table_of s
     with-kept = ap (put_among [] own) kept_all ∙ with-puts

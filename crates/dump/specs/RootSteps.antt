@@ -15,12 +15,10 @@ use Rattle.packed.specs.Build.BuiltLaws.{no-rows-fit}
 use Rattle.packed.specs.Rows.Area.{rows_of}
 use Rattle.live_count.specs.Live.{short}
 use Rattle.live_count.specs.LiveLaws.{all_short}
-use Rattle.live_count.specs.PathBuffers.{path_in}
-use Rattle.node.specs.declared.PathBuffer.{PathBuffer}
 use Rattle.live_count.specs.declared.trail.Trail.{Trail}
 use Rattle.live_count.specs.Walk.{passing, Ready}
 use Rattle.live_count.specs.Steps.{no-trail}
-use Rattle.live_count.specs.RootSteps.{countable, one-node, tree-reads, tree_is, root-ready, empty-prefix}
+use Rattle.live_count.specs.RootSteps.{countable, one-node, tree-reads, tree_is, root-ready}
 use Rattle.dump.specs.Dump.{Room, Added, Dumped}
 
 -- a sound store has at most as many rows as nodes
@@ -42,22 +40,22 @@ module _ (s : List ℕ) (h : sound s ≡ true) where
     pub dump-ready : (t : Trail) → t.depth ≡ 0 → Ready s levels root t
     dump-ready t f = root-ready s (countable s (sound-but-live s h)) root levels a b t f
 
-    module _ (p : PathBuffer) (e : p.len ≡ 0) where
+    module _ (p : List ℕ) (e : p ≡ []) where
       module _ (lo hi : List ℕ) (g : lo ≡ []) (k : hi ≡ highest) where
-        low_is : path_in p ++ lo ≡ lowest
-        low_is = ap₂ (λ x y. x ++ y) (empty-prefix s (countable s (sound-but-live s h)) root levels a b p e) g
+        low_is : p ++ lo ≡ lowest
+        low_is = ap₂ (λ x y. x ++ y) e g
 
-        high_is : path_in p ++ hi ≡ highest
-        high_is = ap₂ (λ x y. x ++ y) (empty-prefix s (countable s (sound-but-live s h)) root levels a b p e) k
+        high_is : p ++ hi ≡ highest
+        high_is = ap₂ (λ x y. x ++ y) e k
 
-        pub dump-sound : sound_tree (tree_at levels s root) (path_in p ++ lo) (path_in p ++ hi) ≡ true
+        pub dump-sound : sound_tree (tree_at levels s root) (p ++ lo) (p ++ hi) ≡ true
         dump-sound =
             ap₂ (λ x y. sound_tree (tree_at levels s root) x y) low_is high_is ∙ ap (λ x. sound_tree x lowest highest) (tree_is s (countable s (sound-but-live s h)) root levels a b)
             ∙ (countable s (sound-but-live s h)).tree
 
         module _ (t : Trail) (f : t.depth ≡ 0) where
           abbrev Rows : List Row
-          Rows = keep (passing t) (rows (tree_at levels s root) (path_in p ++ lo) (path_in p ++ hi))
+          Rows = keep (passing t) (rows (tree_at levels s root) (p ++ lo) (p ++ hi))
 
           whole-table : Rows ≡ table_of s
           unfolding table_of

@@ -19,7 +19,6 @@ ghost use Rattle.node.specs.Lent.{left_of};
 ghost use Rattle.node.specs.Spans.{pending_of};
 ghost use Rattle.lookup.specs.Look.{listing};
 ghost use Rattle.packed.specs.Rows.Area.{rows_of};
-ghost use Rattle.live_count.specs.PathBuffers.{path_in};
 ghost use Rattle.live_count.specs.Noted.{Tells, LeafTold, KeyTold, SoundNode, SoundBranches};
 ghost use Rattle.live_count.specs.Walk.{passing, LiftsWithin, Ready, ReadyBranches};
 ghost use Rattle.dump.specs.Replacing.{only_puts};
@@ -27,10 +26,10 @@ ghost use Rattle.dump.specs.Dump.{row_under, pairs_among, values_fit_among, inse
 
 use live_count::position::Position;
 use live_count::trail::Trail;
-use live_count::{path_buffer, visibility};
-use node::PathBuffer;
+use live_count::visibility;
 use node::branches::{Branch, Branches};
 use node::entries::{Entries, Entry};
+use node::path_buffer::PathBuffer;
 use packed::rows::Row;
 
 // A pair's row after the `m` rows of the area, if no message above says anything of its path.
@@ -43,18 +42,17 @@ fn append_pair(area: &mut [u8], m: usize, here: &Position, key: &[u8], value: &[
     if !here.shows(key) {
         return m;
     }
-    let prefix = here.prefix;
-    packed::put_joined(area, m, &prefix.bytes[..prefix.len], key, value);
+    packed::put_joined(area, m, here.prefix.as_slice(), key, value);
     m + 1
 }
 
 // The pairs of a leaf, each as a row if no message above says anything of its path.
 fn append_pairs(area: &mut [u8], first: usize, entries: Entries, here: &Position) -> usize
     requires { (values_fit_among (left_of entries) ≡ true)
-        × Room area.old first (keep (passing here.now.trail) (under_prefix (path_in here.now.prefix) (pairs_among (left_of entries))))
+        × Room area.old first (keep (passing here.now.trail) (under_prefix here.now.prefix (pairs_among (left_of entries))))
         × LeafTold here.now (left_of entries) }
     ensures { Added first area.old area.new result
-        (keep (passing here.now.trail) (under_prefix (path_in here.now.prefix) (pairs_among (left_of entries.entry)))) }
+        (keep (passing here.now.trail) (under_prefix here.now.prefix (pairs_among (left_of entries.entry)))) }
 {
     let mut m = first;
     for entry in entries {
@@ -72,14 +70,13 @@ fn insert_puts(
     area: &mut [u8],
     first: usize,
     entries: Entries,
-    prefix: PathBuffer,
+    prefix: &PathBuffer,
     trail: &Trail,
 ) -> usize
-    requires { (prefix.len ≤ 64)
-        × LiftsWithin prefix.len trail.now
-        × Open area.old first first (passing trail.now) (path_in prefix) (left_of entries) }
+    requires { LiftsWithin (length prefix.now) trail.now
+        × Open area.old first first (passing trail.now) prefix.now (left_of entries) }
     ensures { Placed first area.old area.new result
-        (insert_among (passing trail.now) (path_in prefix) (left_of entries.entry) (rows_of (first - first) area.old first)) }
+        (insert_among (passing trail.now) prefix.now (left_of entries.entry) (rows_of (first - first) area.old first)) }
 {
     let mut later = entries;
     let mut m = first;
@@ -90,15 +87,14 @@ fn insert_puts(
         if !visibility::none_covers(later, key) {
             continue;
         }
-        if !trail.is_live(prefix, key) {
+        let Some(full) = prefix.followed_by(key) else {
+            continue;
+        };
+        let path = full.as_slice();
+        if !trail.is_visible(path) {
             continue;
         }
-        let full = path_buffer::extend(prefix, key);
-        let row = Row {
-            path: &full.bytes[..full.len],
-            value,
-        };
-        insertion::insert_row(area, first, m, row);
+        insertion::insert_row(area, first, m, Row { path, value });
         m += 1;
     }
     m
@@ -120,12 +116,12 @@ fn dump_node<'a>(
         × SoundNode store.now level node.number above.now.prefix node.low.now node.high.now
         × Room area.old m
         (keep (passing above.now.trail)
-        (rows (tree_at level store.now node.number) (path_in above.now.prefix ++ node.low.now) (path_in above.now.prefix ++ node.high.now)))
+        (rows (tree_at level store.now node.number) (above.now.prefix ++ node.low.now) (above.now.prefix ++ node.high.now)))
         × Tells above.now node.low.now node.high.now }
     ensures { Added m area.old area.new result
         (keep (passing above.now.trail)
-        (rows (tree_at level store.now node.entry.number) (path_in above.now.prefix ++ node.entry.low.now)
-        (path_in above.now.prefix ++ node.entry.high.now))) }
+        (rows (tree_at level store.now node.entry.number) (above.now.prefix ++ node.entry.low.now)
+        (above.now.prefix ++ node.entry.high.now))) }
 {
     let Some(lifted) = here.arrive(above, node.low, node.high) else {
         return m;
@@ -144,7 +140,7 @@ fn dump_node<'a>(
         Branches::among(entries, high),
         here,
     );
-    let all = insert_puts(area, r, entries, here.prefix, &above.trail);
+    let all = insert_puts(area, r, entries, &here.prefix, &above.trail);
     insertion::merge_rows(area, m, r, all);
     all
 }
@@ -162,15 +158,15 @@ fn dump_children<'a>(
     requires { ReadyBranches store.now level (pending_of children) here.now.trail
         × Room area.old first
         (keep (passing here.now.trail)
-        (rows_in (forest_of (λ j. tree_at level store.now j) (pending_of children)) (path_in here.now.prefix)
-        (path_in here.now.prefix ++ children.high.now)))
+        (rows_in (forest_of (λ j. tree_at level store.now j) (pending_of children)) here.now.prefix
+        (here.now.prefix ++ children.high.now)))
         × SoundBranches store.now level (pending_of children) children.high.now here.now }
     ensures { Added first area.old area.new result
         (keep (passing here.now.trail)
-        (rows_in (forest_of (λ j. tree_at level store.now j) (pending_of children.entry)) (path_in here.now.prefix)
-        (path_in here.now.prefix ++ children.entry.high.now))) }
+        (rows_in (forest_of (λ j. tree_at level store.now j) (pending_of children.entry)) here.now.prefix
+        (here.now.prefix ++ children.entry.high.now))) }
 {
-    let mut below = *here;
+    let mut below = Position::new();
     let mut m = first;
     for child in children {
         m = dump_node(store, area, m, level, child, here, &mut below);
@@ -222,6 +218,6 @@ pub fn dump(store: &[u8], area: &mut [u8]) -> usize
         high: &[255],
     };
     let above = Position::new();
-    let mut here = above;
+    let mut here = Position::new();
     dump_node(store, area, 0, level, root, &above, &mut here)
 }

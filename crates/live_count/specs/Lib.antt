@@ -2,11 +2,9 @@ pub mod Notes
 pub mod Live
 pub mod KeepLaws
 pub mod LiveLaws
-pub mod PathBuffers
 pub mod Walk
 pub mod Steps
 pub mod WalkLaws
-pub mod PathSteps
 pub mod Noted
 pub mod NotedSteps
 pub mod TreeSteps

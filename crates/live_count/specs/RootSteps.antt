@@ -1,6 +1,6 @@
 -- Step lemmas of the count from the root: what the first call asks, and that its answer is the length of the table.
 -- Relies on `Countable` (Walk), on live-root (LiveLaws), and on the bytes of the header (lookup: Root).
-use Rattle.std.specs.Prelude.{ℕ, ◌≤◌, ◌≡◌, refl, List, [], ◌++◌, true, ◌&&◌, length, take, drop}
+use Rattle.std.specs.Prelude.{ℕ, ◌≤◌, ◌≡◌, refl, List, [], ◌++◌, true, ◌&&◌, length, drop}
 use Rattle.image.specs.Prelude.{sym, ap, ap₂, ◌∙◌, arith, and-true}
 use Rattle.image.specs.Bytes.{u16, shared}
 use Rattle.image.specs.Image.{Tree, nodes_of, header, header_of, tree_at, tree_of}
@@ -12,8 +12,6 @@ use Rattle.lookup.specs.Look.{node-inside}
 use Rattle.lookup.specs.Root.{first-u16}
 use Rattle.live_count.specs.Live.{short, live_here}
 use Rattle.live_count.specs.LiveLaws.{live-root}
-use Rattle.live_count.specs.PathBuffers.{path_in}
-use Rattle.node.specs.declared.PathBuffer.{PathBuffer}
 use Rattle.live_count.specs.declared.trail.Trail.{Trail}
 use Rattle.live_count.specs.declared.position.Position.{Position}
 use Rattle.live_count.specs.Noted.{AtRoot, Tells, SoundNode}
@@ -53,28 +51,24 @@ module _ (s : List ℕ) (h : Countable s) where
           deep = let l = levels-are in let g = h.levels in omega arith;
         }
 
-    pub empty-prefix : (p : PathBuffer) → p.len ≡ 0 → path_in p ≡ []
-    unfolding path_in
-    empty-prefix p e = ap (λ n. take n p.bytes) e
-
     pub root-sound : (p : Position) → AtRoot p → SoundNode s levels root p.prefix [] highest
     root-sound p e =
-        ap (λ x. sound_tree x (path_in p.prefix ++ []) (path_in p.prefix ++ highest)) tree_is
-        ∙ ap (λ x. sound_tree (tree_of s) (x ++ []) (x ++ highest)) (empty-prefix p.prefix e.prefix) ∙ h.tree
+        ap (λ x. sound_tree x (p.prefix ++ []) (p.prefix ++ highest)) tree_is
+        ∙ ap (λ x. sound_tree (tree_of s) (x ++ []) (x ++ highest)) e.prefix ∙ h.tree
 
     from-root : (t : Tree) → live_here t short ([] ++ shared [] highest) (drop (lifts [] highest) highest) ≡ live_here t short [] highest
     unfolding lifts shared
     from-root t = refl
 
     pub root-counts : (p : Position) (r : ℕ) → AtRoot p
-        → r ≡ cap (live_here (tree_at levels s root) (passing p.trail) (path_in p.prefix ++ shared [] highest) (drop (lifts [] highest) highest)) → r ≡ cap (length (table_of s))
+        → r ≡ cap (live_here (tree_at levels s root) (passing p.trail) (p.prefix ++ shared [] highest) (drop (lifts [] highest) highest)) → r ≡ cap (length (table_of s))
     unfolding table_of
     root-counts p r e c =
-        c ∙ ap₂ (λ x y. cap (live_here x y (path_in p.prefix ++ shared [] highest) (drop (lifts [] highest) highest))) tree_is (λ i q. no-trail p.trail e.trail q i)
-        ∙ ap (λ x. cap (live_here (tree_of s) short (x ++ shared [] highest) (drop (lifts [] highest) highest))) (empty-prefix p.prefix e.prefix)
+        c ∙ ap₂ (λ x y. cap (live_here x y (p.prefix ++ shared [] highest) (drop (lifts [] highest) highest))) tree_is (λ i q. no-trail p.trail e.trail q i)
+        ∙ ap (λ x. cap (live_here (tree_of s) short (x ++ shared [] highest) (drop (lifts [] highest) highest))) e.prefix
         ∙ ap cap (from-root (tree_of s) ∙ live-root (tree_of s) highest h.tree)
 
 -- above the root there is nothing to tell
 pub root_told : (p : Position) (lo hi : List ℕ) → AtRoot p → Tells p lo hi
 root_told p lo hi e = λ s k o.
-    no-trail p.trail e.trail (path_in p.prefix ++ k) ∙ sym (ap (λ x. short (path_in p.prefix ++ k) && x) (empty-quiet p.notes k e.notes) ∙ and-true (short (path_in p.prefix ++ k)))
+    no-trail p.trail e.trail (p.prefix ++ k) ∙ sym (ap (λ x. short (p.prefix ++ k) && x) (empty-quiet p.notes k e.notes) ∙ and-true (short (p.prefix ++ k)))

@@ -1,16 +1,15 @@
 -- Step lemmas of the functions that hold one path against a trail: what each exit of the code owes, over plain lists and numbers.
 -- Relies on the definitions of Walk and on the contracts of node.
 use Rattle.std.specs.Prelude.{ℕ, ◌+◌, ◌-◌, ◌<◌, ◌≤◌, ◌≡◌, refl, List, [], ◌∷◌, ◌++◌, Bool, true, false, ◌&&◌, length, take, drop, get_or, leb, zero, suc}
-use Rattle.std.specs.List.{list_all, All}
+use Rattle.std.specs.List.{list_all}
 use Rattle.std.specs.Borrow.{Bor}
-use Rattle.image.specs.Prelude.{sym, ap, ap₂, subst, ◌∙◌, true≢false, and-true, arith, length-append, le-leb, lt-leb, take_all, length-drop, Option, none, some}
+use Rattle.image.specs.Prelude.{sym, ap, ap₂, ◌∙◌, true≢false, and-true, arith, length-append, le-leb, lt-leb, take_all, length-drop, Option, none, some}
 use Rattle.image.specs.Entry as defined
 use Rattle.octets.specs.Order.{and-false, and_assoc}
 use Rattle.std.proofs.lemmas.List.Folds.{list_all_at, list_all-append}
 use Rattle.lookup.specs.Look.{part-rest}
 use Rattle.node.specs.Lent.{entry_is, message_is, left_of}
 use Rattle.image.specs.Bytes.{u16}
-use Rattle.node.specs.Cut.{cut-drop}
 use Rattle.node.specs.Entries.{list_of, read_some, cons_then, list-cons}
 use Rattle.node.specs.declared.entries.Entries.{Entries}
 use Rattle.node.specs.declared.entries.Entry.{Entry}
@@ -18,9 +17,6 @@ use Rattle.node.specs.Search.Latest.{entry_says, newest_among, newer-nothing}
 use Rattle.node.specs.Search.Messages.{is_message, has_message}
 use Rattle.live_count.specs.Live.{holds_no_message, one, short, Shortens}
 use Rattle.live_count.specs.Notes.Notes.{NoPut}
-use Rattle.live_count.specs.PathBuffers.{path_in}
-use Rattle.live_count.specs.PathSteps.{path_length}
-use Rattle.node.specs.declared.PathBuffer.{PathBuffer}
 use Rattle.image.specs.Path.{owns}
 use Rattle.octets.specs.Order.{and_left, and_right}
 use Rattle.live_count.specs.Noted.{keyed, LeafTold, KeyTold}
@@ -53,17 +49,14 @@ unfolding passes
 no-trail t e q = ap (λ d. short q && list_all (says_nothing q) (take d t.stages)) e ∙ and-true (short q)
 
 -- the path of a key under a prefix
-module _ (p : PathBuffer) (t : Trail) (key : List ℕ) (h : p.len ≤ length p.bytes) where
-  full-length : length (path_in p ++ key) ≡ p.len + length key
-  full-length = length-append (path_in p) key ∙ ap (λ n. n + length key) (path_length p h)
-
-  pub key-long : 64 < p.len + length key → false ≡ passing t (path_in p ++ key)
+module _ (p : List ℕ) (t : Trail) (key : List ℕ) where
+  pub key-long : 64 < length (p ++ key) → false ≡ passing t (p ++ key)
   unfolding Shortens
-  key-long l = sym (passes-short t (path_in p ++ key) (let e = full-length in omega arith))
+  key-long h = sym (passes-short t (p ++ key) h)
 
-  pub key-free : p.len + length key ≤ 64 → t.depth ≡ 0 → true ≡ passing t (path_in p ++ key)
-  unfolding short
-  key-free l z = sym (no-trail t z (path_in p ++ key) ∙ le-leb (length (path_in p ++ key)) 64 (let e = full-length in omega arith))
+  -- the trail lifts no more than a longer path has
+  pub key-lifts : (q : List ℕ) → q ≡ p ++ key → LiftsWithin (length p) t → LiftsWithin (length q) t
+  key-lifts q e f = λ i d h. let a = f i d h in let l : length q ≡ length p + length key = ap length e ∙ length-append p key in omega arith
 
 -- whether an entry decides its path, by its kind
 module _ (ok : List ℕ → Bool) (prefix : List ℕ) (e : Entry) (es : List defined.Entry) where
@@ -168,21 +161,13 @@ few-in (suc n) (b ∷ s) h = go (leb 4 (length (b ∷ s)) && leb (u16 (b ∷ s) 
 pub few-left : (it : Entries) → length (left_of it) ≤ length it.rest.now
 few-left it = few-in (length it.rest.now) it.rest.now (omega arith)
 
--- the bytes of a buffer without the first ones, as a part is made
-pub prefix-rest : (p : PathBuffer) (k : ℕ) → k ≤ p.len → take (p.len - k) (drop k p.bytes) ≡ drop k (path_in p)
-unfolding path_in
-prefix-rest p k h =
-    let z : 0 + k ≡ k = omega arith in
-    let y : p.len - 0 ≡ p.len = omega arith in
-    ap (λ i. take (p.len - i) (drop i p.bytes)) (sym z) ∙ sym (cut-drop p.bytes 0 p.len k (omega arith)) ∙ ap (λ i. drop k (take i p.bytes)) y
-
 -- what the first entry of a leaf is
 module _ (p : Position) (e : Entry) (es ts : List defined.Entry) (q : es ≡ entry_is e ∷ ts) (h : LeafTold p es) where
-  first-keyed : keyed (path_in p.prefix) h.lo h.hi (entry_is e ∷ ts) ≡ true
-  first-keyed = ap (λ l. keyed (path_in p.prefix) h.lo h.hi l) (sym q) ∙ h.keys
+  first-keyed : keyed p.prefix h.lo h.hi (entry_is e ∷ ts) ≡ true
+  first-keyed = ap (λ l. keyed p.prefix h.lo h.hi l) (sym q) ∙ h.keys
 
   module _ (k v : Bor (List ℕ)) (f : e ≡ Entry.Pair k v) where
-    pair-keyed : (owns h.lo h.hi k.now && short (path_in p.prefix ++ k.now)) && keyed (path_in p.prefix) h.lo h.hi ts ≡ true
+    pair-keyed : (owns h.lo h.hi k.now && short (p.prefix ++ k.now)) && keyed p.prefix h.lo h.hi ts ≡ true
     unfolding keyed
     pair-keyed = rw f at first-keyed
 
@@ -192,15 +177,12 @@ module _ (p : Position) (e : Entry) (es ts : List defined.Entry) (q : es ≡ ent
         record { lo = h.lo; hi = h.hi; owned = and_left _ _ a; short_path = and_right (owns h.lo h.hi k.now) _ a; tells = h.tells }
 
     pub leaf-rest : LeafTold p ts
-    leaf-rest = record { lo = h.lo; hi = h.hi; keys = and_right (owns h.lo h.hi k.now && short (path_in p.prefix ++ k.now)) _ pair-keyed; tells = h.tells }
+    leaf-rest = record { lo = h.lo; hi = h.hi; keys = and_right (owns h.lo h.hi k.now && short (p.prefix ++ k.now)) _ pair-keyed; tells = h.tells }
 
   pub leaf-other : ((k v : Bor (List ℕ)) → e ≡ Entry.Pair k v → ⊥) → ⊥
   leaf-other f = go e f first-keyed
     where
-      go : (x : Entry) → ((k v : Bor (List ℕ)) → x ≡ Entry.Pair k v → ⊥) → keyed (path_in p.prefix) h.lo h.hi (entry_is x ∷ ts) ≡ true → ⊥
+      go : (x : Entry) → ((k v : Bor (List ℕ)) → x ≡ Entry.Pair k v → ⊥) → keyed p.prefix h.lo h.hi (entry_is x ∷ ts) ≡ true → ⊥
       go (Entry.Pair k v) f g = f k v refl
       go (Entry.Child i k) f g = let z : false ≡ true = unfold keyed in g in true≢false (sym z)
       go (Entry.Message m) f g = let z : false ≡ true = unfold keyed in g in true≢false (sym z)
-
-pub lift-at : (n : ℕ) (t : Trail) (ys : List Stage) (i : ℕ) (d : Stage) → LiftsWithin n t → ys ≡ stages_of t → i < length ys → (get_or ys i d).lift ≤ n
-lift-at n t ys i d h e l = (subst (λ xs. All (λ (x : Stage). x.lift ≤ n) xs) (sym e) h) i d l

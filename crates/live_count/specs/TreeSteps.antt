@@ -22,7 +22,6 @@ use Rattle.lookup.specs.Look.{listing, leaf-at, interior-at, inside-splits}
 use Rattle.live_count.specs.Live.{short}
 use Rattle.live_count.specs.NotedSteps.{owns-under}
 use Rattle.live_count.specs.Noted.{keyed, Tells, Standing, Entered, LeafTold, SoundNode, SoundBranches}
-use Rattle.live_count.specs.PathBuffers.{path_in}
 use Rattle.live_count.specs.declared.position.Position.{Position}
 
 -- a child's range lies in its node's
@@ -68,33 +67,33 @@ pairs-keyed prefix lo hi (defined.message m ∷ es) rs h o f = let q : none ≡ 
 
 -- the pivots in full, and what the node lifts of them
 module _ (above : Position) (lo hi : List ℕ) (k : ℕ) (here : Position) (st : Standing above lo hi k here) where
-  lifted-is : shared (path_in above.prefix ++ lo) (path_in above.prefix ++ hi) ≡ path_in here.prefix
-  lifted-is = shared-append (path_in above.prefix) lo hi ∙ sym st.prefix
+  lifted-is : shared (above.prefix ++ lo) (above.prefix ++ hi) ≡ here.prefix
+  lifted-is = shared-append above.prefix lo hi ∙ sym st.prefix
 
-  low_is : path_in above.prefix ++ lo ≡ path_in here.prefix ++ drop k lo
+  low_is : above.prefix ++ lo ≡ here.prefix ++ drop k lo
   low_is =
       let a : shared lo hi ++ drop k lo ≡ lo = ap (λ n. shared lo hi ++ drop n lo) st.lifts ∙ begins-split (shared lo hi) lo (shared-left lo hi) in
-      ap (λ l. path_in above.prefix ++ l) (sym a) ∙ sym (append_assoc (path_in above.prefix) (shared lo hi) (drop k lo)) ∙ ap (λ l. l ++ drop k lo) (sym st.prefix)
+      ap (λ l. above.prefix ++ l) (sym a) ∙ sym (append_assoc above.prefix (shared lo hi) (drop k lo)) ∙ ap (λ l. l ++ drop k lo) (sym st.prefix)
 
-  high_is : path_in above.prefix ++ hi ≡ path_in here.prefix ++ drop k hi
+  high_is : above.prefix ++ hi ≡ here.prefix ++ drop k hi
   high_is =
       let a : shared lo hi ++ drop k hi ≡ hi = ap (λ n. shared lo hi ++ drop n hi) st.lifts ∙ begins-split (shared lo hi) hi (shared-right lo hi) in
-      ap (λ l. path_in above.prefix ++ l) (sym a) ∙ sym (append_assoc (path_in above.prefix) (shared lo hi) (drop k hi)) ∙ ap (λ l. l ++ drop k hi) (sym st.prefix)
+      ap (λ l. above.prefix ++ l) (sym a) ∙ sym (append_assoc above.prefix (shared lo hi) (drop k hi)) ∙ ap (λ l. l ++ drop k hi) (sym st.prefix)
 
   module _ (s : List ℕ) (level num : ℕ) (u : usable (nodes_of (length s)) (tree_at level s num) ≡ true) (e : SoundNode s level num above.prefix lo hi)
       (it : Entries) (el : left_of it ≡ listing s num) where
     -- the keys of a leaf are its own
-    leaf-keyed : level ≤ 1 → keyed (path_in here.prefix) (drop k lo) (drop k hi) (left_of it) ≡ true
+    leaf-keyed : level ≤ 1 → keyed here.prefix (drop k lo) (drop k hi) (left_of it) ≡ true
     leaf-keyed l =
         let n = leaf-at s num level l u in
-        let a : sound_tree (leaf num n.rs) (path_in above.prefix ++ lo) (path_in above.prefix ++ hi) ≡ true = ap (λ t. sound_tree t (path_in above.prefix ++ lo) (path_in above.prefix ++ hi)) (sym n.tree) ∙ e in
-        let r = leaf-rowed num n.rs (path_in above.prefix ++ lo) (path_in above.prefix ++ hi) a in
-        let o : every_key (owns (path_in here.prefix ++ drop k lo) (path_in here.prefix ++ drop k hi)) (under_prefix (path_in here.prefix) n.rs) ≡ true
-        = ap₂ (λ x y. every_key (owns x y) (under_prefix (path_in here.prefix) n.rs)) (sym low_is) (sym high_is)
-        ∙ ap (λ x. every_key (owns (path_in above.prefix ++ lo) (path_in above.prefix ++ hi)) (under_prefix x n.rs)) (sym lifted-is) ∙ r.owned in
-        let f : every_key well_formed (under_prefix (path_in here.prefix) n.rs) ≡ true = ap (λ x. every_key well_formed (under_prefix x n.rs)) (sym lifted-is) ∙ r.formed in
-        ap (λ es. keyed (path_in here.prefix) (drop k lo) (drop k hi) es) (el ∙ n.node.lists)
-        ∙ pairs-keyed (path_in here.prefix) (drop k lo) (drop k hi) n.es n.rs n.pairs o f
+        let a : sound_tree (leaf num n.rs) (above.prefix ++ lo) (above.prefix ++ hi) ≡ true = ap (λ t. sound_tree t (above.prefix ++ lo) (above.prefix ++ hi)) (sym n.tree) ∙ e in
+        let r = leaf-rowed num n.rs (above.prefix ++ lo) (above.prefix ++ hi) a in
+        let o : every_key (owns (here.prefix ++ drop k lo) (here.prefix ++ drop k hi)) (under_prefix here.prefix n.rs) ≡ true
+        = ap₂ (λ x y. every_key (owns x y) (under_prefix here.prefix n.rs)) (sym low_is) (sym high_is)
+        ∙ ap (λ x. every_key (owns (above.prefix ++ lo) (above.prefix ++ hi)) (under_prefix x n.rs)) (sym lifted-is) ∙ r.owned in
+        let f : every_key well_formed (under_prefix here.prefix n.rs) ≡ true = ap (λ x. every_key well_formed (under_prefix x n.rs)) (sym lifted-is) ∙ r.formed in
+        ap (λ es. keyed here.prefix (drop k lo) (drop k hi) es) (el ∙ n.node.lists)
+        ∙ pairs-keyed here.prefix (drop k lo) (drop k hi) n.es n.rs n.pairs o f
 
     pub leaf-told : level ≤ 1 → LeafTold here (left_of it)
     leaf-told l = record { lo = drop k lo; hi = drop k hi; keys = leaf-keyed l; tells = st.tells }
@@ -105,20 +104,20 @@ module _ (above : Position) (lo hi : List ℕ) (k : ℕ) (here : Position) (st :
     branches_sound l below x y h ex ey en ks eb eh =
         let n = interior-at s num level l u in
         let q = inside-splits n.es n.x n.splits in
-        let a : sound_tree (interior num (forest_of (λ j. tree_at (level - 1) s j) n.x.branches) n.x.messages) (path_in above.prefix ++ lo) (path_in above.prefix ++ hi) ≡ true
-        = ap (λ t. sound_tree t (path_in above.prefix ++ lo) (path_in above.prefix ++ hi)) (sym n.tree) ∙ e in
-        let b = inner num (forest_of (λ j. tree_at (level - 1) s j) n.x.branches) n.x.messages (path_in above.prefix ++ lo) (path_in above.prefix ++ hi) a in
+        let a : sound_tree (interior num (forest_of (λ j. tree_at (level - 1) s j) n.x.branches) n.x.messages) (above.prefix ++ lo) (above.prefix ++ hi) ≡ true
+        = ap (λ t. sound_tree t (above.prefix ++ lo) (above.prefix ++ hi)) (sym n.tree) ∙ e in
+        let b = inner num (forest_of (λ j. tree_at (level - 1) s j) n.x.branches) n.x.messages (above.prefix ++ lo) (above.prefix ++ hi) a in
         let c : ks ≡ n.x.branches = eb ∙ ap branches_among (el ∙ n.node.lists) ∙ q.branches in
-        let d : sound_forest (forest_of (λ j. tree_at (level - 1) s j) ks) (path_in here.prefix) (path_in here.prefix ++ drop k lo) (path_in here.prefix ++ drop k hi) ≡ true
-        = ap (λ zs. sound_forest (forest_of (λ j. tree_at (level - 1) s j) zs) (path_in here.prefix) (path_in here.prefix ++ drop k lo) (path_in here.prefix ++ drop k hi)) c
-        ∙ ap₂ (λ v w. sound_forest (forest_of (λ j. tree_at (level - 1) s j) n.x.branches) (path_in here.prefix) v w) (sym low_is) (sym high_is)
-        ∙ ap (λ v. sound_forest (forest_of (λ j. tree_at (level - 1) s j) n.x.branches) v (path_in above.prefix ++ lo) (path_in above.prefix ++ hi)) (sym lifted-is)
+        let d : sound_forest (forest_of (λ j. tree_at (level - 1) s j) ks) here.prefix (here.prefix ++ drop k lo) (here.prefix ++ drop k hi) ≡ true
+        = ap (λ zs. sound_forest (forest_of (λ j. tree_at (level - 1) s j) zs) here.prefix (here.prefix ++ drop k lo) (here.prefix ++ drop k hi)) c
+        ∙ ap₂ (λ v w. sound_forest (forest_of (λ j. tree_at (level - 1) s j) n.x.branches) here.prefix v w) (sym low_is) (sym high_is)
+        ∙ ap (λ v. sound_forest (forest_of (λ j. tree_at (level - 1) s j) n.x.branches) v (above.prefix ++ lo) (above.prefix ++ hi)) (sym lifted-is)
         ∙ b.branches in
         record {
           low = drop k lo;
           sound =
-              ap (λ p. sound_forest (forest_of (λ j. tree_at (level - 1) s j) ks) (path_in p) (path_in p ++ drop k lo) (path_in p ++ h)) en.prefix
-              ∙ ap (λ v. sound_forest (forest_of (λ j. tree_at (level - 1) s j) ks) (path_in here.prefix) (path_in here.prefix ++ drop k lo) (path_in here.prefix ++ v)) (eh ∙ ey) ∙ d;
+              ap (λ p. sound_forest (forest_of (λ j. tree_at (level - 1) s j) ks) p (p ++ drop k lo) (p ++ h)) en.prefix
+              ∙ ap (λ v. sound_forest (forest_of (λ j. tree_at (level - 1) s j) ks) here.prefix (here.prefix ++ drop k lo) (here.prefix ++ v)) (eh ∙ ey) ∙ d;
           tells = λ some r o. en.tells (λ f r o. st.tells f r (ap₂ (λ v w. owns v w r) (sym ex) (sym ey) ∙ o)) some r (ap₂ (λ v w. owns v w r) ex (sym eh) ∙ o);
         }
 
@@ -127,18 +126,18 @@ module _ (s : List ℕ) (level num : ℕ) (low : List ℕ) (us ks : List Branch)
   abbrev At : ℕ → Tree
   At j = tree_at level s j
 
-  forest : sound_forest (forest_of At (branch num low ∷ us)) (path_in p.prefix) (path_in p.prefix ++ h.low) (path_in p.prefix ++ hi) ≡ true
-  forest = ap (λ xs. sound_forest (forest_of At xs) (path_in p.prefix) (path_in p.prefix ++ h.low) (path_in p.prefix ++ hi)) (sym q) ∙ h.sound
+  forest : sound_forest (forest_of At (branch num low ∷ us)) p.prefix (p.prefix ++ h.low) (p.prefix ++ hi) ≡ true
+  forest = ap (λ xs. sound_forest (forest_of At xs) p.prefix (p.prefix ++ h.low) (p.prefix ++ hi)) (sym q) ∙ h.sound
 
   module _ (b : List ℕ) (eb : b ≡ branch_high hi us) where
-    high-is : high_of (path_in p.prefix) (path_in p.prefix ++ hi) (forest_of At us) ≡ path_in p.prefix ++ b
-    high-is = high-joined At (path_in p.prefix) hi us ∙ ap (λ x. path_in p.prefix ++ x) (sym eb)
+    high-is : high_of p.prefix (p.prefix ++ hi) (forest_of At us) ≡ p.prefix ++ b
+    high-is = high-joined At p.prefix hi us ∙ ap (λ x. p.prefix ++ x) (sym eb)
 
     pub child-sound : SoundNode s level num p.prefix low b
     unfolding forest_of
     child-sound =
-        ap (λ x. sound_tree (tree_at level s num) (path_in p.prefix ++ low) x) (sym high-is)
-        ∙ (parts low (tree_at level s num) (forest_of At us) (path_in p.prefix) (path_in p.prefix ++ h.low) (path_in p.prefix ++ hi) forest).first
+        ap (λ x. sound_tree (tree_at level s num) (p.prefix ++ low) x) (sym high-is)
+        ∙ (parts low (tree_at level s num) (forest_of At us) p.prefix (p.prefix ++ h.low) (p.prefix ++ hi) forest).first
 
     pub child-told : Tells p low b
     unfolding forest_of
@@ -146,10 +145,10 @@ module _ (s : List ℕ) (level num : ℕ) (low : List ℕ) (us ks : List Branch)
       where
         mine : (k : List ℕ) → owns low b k ≡ true → owns h.low hi k ≡ true
         mine k o =
-            sym (owns-under (path_in p.prefix) h.low hi k)
-            ∙ child-within low (At num) (forest_of At us) (path_in p.prefix) (path_in p.prefix ++ h.low) (path_in p.prefix ++ hi) forest (path_in p.prefix ++ k)
-            (ap (λ x. owns (path_in p.prefix ++ low) x (path_in p.prefix ++ k)) high-is ∙ owns-under (path_in p.prefix) low b k ∙ o)
+            sym (owns-under p.prefix h.low hi k)
+            ∙ child-within low (At num) (forest_of At us) p.prefix (p.prefix ++ h.low) (p.prefix ++ hi) forest (p.prefix ++ k)
+            (ap (λ x. owns (p.prefix ++ low) x (p.prefix ++ k)) high-is ∙ owns-under p.prefix low b k ∙ o)
 
   pub later-sound : SoundBranches s level us hi p
   unfolding forest_of
-  later-sound = record { low = h.low; sound = (parts low (tree_at level s num) (forest_of At us) (path_in p.prefix) (path_in p.prefix ++ h.low) (path_in p.prefix ++ hi) forest).later; tells = h.tells }
+  later-sound = record { low = h.low; sound = (parts low (tree_at level s num) (forest_of At us) p.prefix (p.prefix ++ h.low) (p.prefix ++ hi) forest).later; tells = h.tells }

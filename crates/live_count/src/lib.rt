@@ -5,7 +5,6 @@
 #![tactic(auto)]
 
 pub mod notes;
-pub mod path_buffer;
 pub mod position;
 pub mod trail;
 pub mod visibility;
@@ -20,7 +19,6 @@ ghost use Rattle.node.specs.Lent.{left_of};
 ghost use Rattle.node.specs.Spans.{pending_of};
 ghost use Rattle.live_count.specs.Noted.{Tells, LeafTold, SoundNode, SoundBranches};
 ghost use Rattle.live_count.specs.Live.{live_here, live_branches};
-ghost use Rattle.live_count.specs.PathBuffers.{path_in};
 ghost use Rattle.live_count.specs.Walk.{passing, count_among, Ready, ReadyBranches, Countable};
 
 use node::branches::{Branch, Branches};
@@ -29,7 +27,7 @@ use position::Position;
 
 // How many of these entries of a node decide their paths.
 pub fn count_entries(entries: Entries, here: &Position) -> usize
-    ensures { (result ≡ count_among (passing here.now.trail) (path_in here.now.prefix) (left_of entries.entry)) × (result ≤ length (left_of entries.entry)) }
+    ensures { (result ≡ count_among (passing here.now.trail) here.now.prefix (left_of entries.entry)) × (result ≤ length (left_of entries.entry)) }
 {
     let mut later = entries;
     let mut count = 0;
@@ -45,7 +43,7 @@ pub fn count_entries(entries: Entries, here: &Position) -> usize
 // the trail has.
 pub fn count_leaf(entries: Entries, here: &Position) -> usize
     requires { LeafTold here.now (left_of entries) }
-    ensures { (result ≡ count_among (passing here.now.trail) (path_in here.now.prefix) (left_of entries.entry)) × (result ≤ length (left_of entries.entry)) }
+    ensures { (result ≡ count_among (passing here.now.trail) here.now.prefix (left_of entries.entry)) × (result ≤ length (left_of entries.entry)) }
 {
     let mut count = 0;
     for entry in entries {
@@ -74,7 +72,7 @@ pub fn count_node<'a>(
     ensures { (result
         ≡ cap
         (live_here (tree_at level store.now node.entry.number) (passing above.now.trail)
-        (path_in above.now.prefix ++ shared node.entry.low.now node.entry.high.now)
+        (above.now.prefix ++ shared node.entry.low.now node.entry.high.now)
         (drop (lifts node.entry.low.now node.entry.high.now) node.entry.high.now)))
         × (result ≤ 65535) }
 {
@@ -105,10 +103,10 @@ pub fn count_children<'a>(
     ensures { (result
         ≡ cap
         (live_branches (forest_of (λ j. tree_at level store.now j) (pending_of children.entry))
-        (passing here.now.trail) (path_in here.now.prefix) children.entry.high.now))
+        (passing here.now.trail) here.now.prefix children.entry.high.now))
         × (result ≤ 65535) }
 {
-    let mut below = *here;
+    let mut below = Position::new();
     let mut total = 0;
     for child in children {
         let count = count_node(store, level, child, here, &mut below);
@@ -129,6 +127,6 @@ pub fn count_paths(store: &[u8]) -> usize
     };
     let levels = node::header::read_levels(store);
     let above = Position::new();
-    let mut here = above;
+    let mut here = Position::new();
     count_node(store, levels, root, &above, &mut here)
 }

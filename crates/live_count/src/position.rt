@@ -1,22 +1,20 @@
 // Where a walk stands: what all paths there begin with, the nodes above that hold messages, and notes of what these say. How a walk comes to a node
-// (arrive) and to its children (enter). Relies on trail, notes, path_buffer and node; specs/Noted says what the notes tell.
+// (arrive) and to its children (enter). Relies on trail, notes and node; specs/Noted says what the notes tell.
 ghost use Rattle.std.specs.Prelude.{◌≡◌, ◌≤◌, length};
 ghost use Rattle.live_count.specs.Walk.{LiftsWithin};
 
 use crate::notes::{Keys, Notes};
 use crate::trail::{Stage, Trail};
-use crate::{path_buffer, visibility};
-use node::PathBuffer;
+use crate::visibility;
 use node::entries::{Entries, Entry};
+use node::path_buffer::PathBuffer;
 
-#[derive(Clone, Copy)]
+#[derive(Drop)]
 pub struct Position<'a> {
     pub prefix: PathBuffer,
     pub trail: Trail<'a>,
     pub notes: Notes<'a>,
-    ghost full: { length prefix.bytes ≡ 64 },
-    ghost room: { prefix.len ≤ 64 },
-    ghost lifted: { LiftsWithin prefix.len trail },
+    ghost lifted: { LiftsWithin (length prefix) trail },
 }
 
 impl<'a> Position<'a> {
@@ -24,7 +22,6 @@ impl<'a> Position<'a> {
     ghost use Rattle.image.specs.Bytes.{shared};
     ghost use Rattle.node.specs.Lent.{entry_is, left_of};
     ghost use Rattle.live_count.specs.Noted.{AtRoot, KeyTold, Standing, Tells, TrailNoted, Entered};
-    ghost use Rattle.live_count.specs.PathBuffers.{path_in};
     ghost use Rattle.live_count.specs.Walk.{passing, decides};
 
     // Above the root.
@@ -32,10 +29,7 @@ impl<'a> Position<'a> {
         ensures { AtRoot result }
     {
         Position {
-            prefix: PathBuffer {
-                bytes: [0; 64],
-                len: 0,
-            },
+            prefix: PathBuffer::new(),
             trail: Trail::new(),
             notes: Notes::new(),
         }
@@ -43,15 +37,15 @@ impl<'a> Position<'a> {
 
     // Whether the path that is the prefix and a key is short enough, and no node of the trail has a message on it.
     pub fn is_live(&self, key: &[u8]) -> bool
-        ensures { result ≡ passing self.now.trail (path_in self.now.prefix ++ key.now) }
+        ensures { result ≡ passing self.now.trail (self.now.prefix ++ key.now) }
     {
-        self.trail.is_live(self.prefix, key)
+        self.trail.is_live(&self.prefix, key)
     }
 
     // The same of a key that the notes tell of, by these, or where they tell nothing, by the trail.
     pub fn shows(&self, key: &[u8]) -> bool
         requires { KeyTold self.now key.now }
-        ensures { result ≡ passing self.now.trail (path_in self.now.prefix ++ key.now) }
+        ensures { result ≡ passing self.now.trail (self.now.prefix ++ key.now) }
     {
         match self.notes.is_quiet(key) {
             Some(quiet) => quiet,
@@ -61,7 +55,7 @@ impl<'a> Position<'a> {
 
     // Whether an entry decides its path: it is a pair or a put, no later entry of its node says anything of its path, and none above does.
     pub fn decides(&self, entry: Entry, later: Entries) -> bool
-        ensures { result ≡ decides (passing self.now.trail) (path_in self.now.prefix) (entry_is entry.entry) (left_of later.entry) }
+        ensures { result ≡ decides (passing self.now.trail) self.now.prefix (entry_is entry.entry) (left_of later.entry) }
     {
         if let Entry::Pair(key, _) = entry {
             return self.is_live(key);
@@ -76,16 +70,17 @@ impl<'a> Position<'a> {
     fn note_trail(&mut self, low: &[u8], high: &[u8])
         ensures { TrailNoted self.old low.now high.now self.new }
     {
-        let prefix = self.prefix;
+        let prefix = self.prefix.as_slice();
         let trail = self.trail;
-        self.notes.clear();
+        let notes = &mut self.notes;
+        notes.clear();
         for stage in trail.nodes() {
             let keys = Keys {
-                after: &prefix.bytes[stage.lift..prefix.len],
+                after: &prefix[stage.lift..],
                 low,
                 high,
             };
-            self.notes.add_messages(stage.entries, &keys);
+            notes.add_messages(stage.entries, &keys);
         }
     }
 
@@ -93,16 +88,13 @@ impl<'a> Position<'a> {
     // where that is too long for any path.
     pub fn arrive(&mut self, above: &Position<'a>, low: &[u8], high: &[u8]) -> Option<usize>
         requires { Tells above.now low.now high.now }
-        ensures { MatchOption result (64 < length (path_in above.now.prefix ++ shared low.now high.now)) (λ k. Standing above.now low.now high.now k self.new) }
+        ensures { MatchOption result (64 < length (above.now.prefix ++ shared low.now high.now)) (λ k. Standing above.now low.now high.now k self.new) }
     {
         let lifted = octets::common_length(low, high);
-        if 64 - above.prefix.len < lifted {
-            return None;
-        }
         let after = &low[..lifted];
         let low = &low[lifted..];
         let high = &high[lifted..];
-        self.prefix = path_buffer::extend(above.prefix, after);
+        self.prefix = above.prefix.followed_by(after)?;
         self.trail = above.trail;
         if above.notes.count.is_some() {
             self.notes.clear();
@@ -122,7 +114,7 @@ impl<'a> Position<'a> {
         let after = &low[..0];
         self.notes.add_messages(entries, &Keys { after, low, high });
         if visibility::has_messages(entries) {
-            let lift = self.prefix.len;
+            let lift = self.prefix.as_slice().len();
             self.trail.push(Stage { entries, lift });
         }
     }

@@ -1,9 +1,9 @@
-// The nodes above that hold messages. Relies on visibility (the messages of one node); specs/Walk says what passes a trail.
+// The nodes above that hold messages. Relies on visibility (the messages of one node) and on node (a path by value); specs/Walk says what passes a trail.
 ghost use Rattle.std.specs.Prelude.{◌≡◌, ◌≤◌, length};
 
-use crate::{path_buffer, visibility};
-use node::PathBuffer;
+use crate::visibility;
 use node::entries::Entries;
+use node::path_buffer::PathBuffer;
 
 // A node of a trail: its entries, and how many bytes it lifts.
 #[derive(Clone, Copy)]
@@ -23,7 +23,6 @@ pub struct Trail<'a> {
 
 impl<'a> Trail<'a> {
     ghost use Rattle.std.specs.Prelude.{◌<◌, ◌+◌, ◌++◌, ◌∷◌, []};
-    ghost use Rattle.live_count.specs.PathBuffers.{path_in};
     ghost use Rattle.live_count.specs.Walk.{passing, stages_of, LiftsWithin};
 
     // No nodes.
@@ -70,17 +69,13 @@ impl<'a> Trail<'a> {
     }
 
     // Whether the path that is a prefix and a key is short enough, and no node has a message on it.
-    pub fn is_live(&self, prefix: PathBuffer, key: &[u8]) -> bool
-        requires { (prefix.len ≤ 64) × LiftsWithin prefix.len self.now }
-        ensures { result ≡ passing self.now (path_in prefix ++ key.now) }
+    pub fn is_live(&self, prefix: &PathBuffer, key: &[u8]) -> bool
+        requires { LiftsWithin (length prefix.now) self.now }
+        ensures { result ≡ passing self.now (prefix.now ++ key.now) }
     {
-        if 64 - prefix.len < key.len() {
+        let Some(full) = prefix.followed_by(key) else {
             return false;
-        }
-        if self.depth == 0 {
-            return true;
-        }
-        let full = path_buffer::extend(prefix, key);
-        self.is_visible(&full.bytes[..full.len])
+        };
+        self.is_visible(full.as_slice())
     }
 }

@@ -54,3 +54,7 @@ fitted-long x e = go (leb (length x) 64) refl
     go : (b : Bool) → leb (length x) 64 ≡ b → 64 < length x
     go true f = let q : none ≡ some x = e ∙ rw f in let z : ◌≡◌ {A = ℕ} 0 1 = cc in absurd (omega arith)
     go false f = leb-false (length x) 64 f
+
+pub fitted-told : (o : found.Option (List ℕ)) (x : List ℕ) → buffer_is o ≡ fitted x → found.MatchOption o (64 < length x) (λ p. p ≡ x)
+fitted-told found.None x e = fitted-long x e
+fitted-told (found.Some p) x e = fitted-is p x e

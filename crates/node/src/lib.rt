@@ -28,10 +28,3 @@ pub fn whole_nodes(len: usize) -> bool
     }
     n <= image::MOST_NODES
 }
-
-// The bytes of a path, or of the beginning of one, by value: the first len of them. A length over 64 says that there is none.
-#[derive(Clone, Copy)]
-pub struct PathBuffer {
-    pub bytes: [u8; 64],
-    pub len: usize,
-}

@@ -1,6 +1,6 @@
 // A path, or the beginning of one, held by value: at most 64 bytes, as a path has. Contracts see it as the list of its bytes.
 // Relies on octets and on the longest path of image.
-ghost use Rattle.std.specs.Prelude.{◌≡◌, ◌≤◌, ◌++◌, List, ℕ, take, length};
+ghost use Rattle.std.specs.Prelude.{◌≡◌, ◌≤◌, ◌<◌, ◌++◌, [], List, MatchOption, ℕ, take, length};
 ghost use Rattle.node.specs.Fitted.{fitted, buffer_is};
 
 use std::marker::Model;
@@ -20,6 +20,16 @@ impl Model for PathBuffer {
 }
 
 impl PathBuffer {
+    // No bytes yet.
+    pub fn new() -> PathBuffer
+        ensures { result ≡ [] }
+    {
+        PathBuffer {
+            bytes: [0; 64],
+            len: 0,
+        }
+    }
+
     // The path front ++ back; none where it is too long for any path.
     pub fn join(front: &[u8], back: &[u8]) -> Option<PathBuffer>
         ensures { buffer_is result ≡ fitted (front.now ++ back.now) }
@@ -33,6 +43,13 @@ impl PathBuffer {
         octets::copy_at(&mut bytes, 0, front);
         octets::copy_at(&mut bytes, at, back);
         Some(PathBuffer { bytes, len })
+    }
+
+    // The path followed by the bytes `back`; none where that is too long for any path.
+    pub fn followed_by(&self, back: &[u8]) -> Option<PathBuffer>
+        ensures { MatchOption result (64 < length (self.now ++ back.now)) (λ p. p ≡ self.now ++ back.now) }
+    {
+        PathBuffer::join(self.as_slice(), back)
     }
 
     pub fn as_slice(&self) -> &[u8]

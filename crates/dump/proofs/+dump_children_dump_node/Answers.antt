@@ -8,7 +8,6 @@ use Rattle.node.specs.Search.Own.{branch}
 use Rattle.node.specs.Lent.{left_of}
 use Rattle.node.specs.Spans.{pending_of}
 use Rattle.lookup.specs.Look.{node-inside, part-rest}
-use Rattle.live_count.specs.PathBuffers.{path_in}
 use Rattle.live_count.specs.Walk.{passing, count_among}
 use Rattle.live_count.specs.NodeSteps.{branches-ready}
 use Rattle.live_count.specs.TreeSteps.{leaf-told, branches_sound, child-sound, child-told, later-sound}
@@ -63,23 +62,23 @@ pub dump_node-returns-then-level-le1 : goal.dump_node-returns-then-level-le1
 dump_node-returns-then-level-le1 t c = leaf-added _ _ _ c.args.above.now c.requires.0 _ _ c.requires.1 _ _ c.requires.2 _ c.arrive.new.self c.in-Some.ensures c.of_node-entries.result c.of_node-entries.ensures.lists c.if-level-le1.true _ _ c.append_pairs.ensures
 
 pub dump_node-dump_children-r-requires : goal.dump_node-dump_children-r-requires
-dump_node-dump_children-r-requires t c = let v = c.if-level-le1.false in let f = c.arrive.new.self.full in let r = c.arrive.new.self.room in (
+dump_node-dump_children-r-requires t c = let v = c.if-level-le1.false in (
   omega arith,
   (
-    branches-ready _ _ _ c.args.above.now c.requires.0 _ _ _ c.arrive.new.self c.in-Some.ensures c.of_node-entries.result (count_among (passing c.arrive.new.self.trail) (path_in c.arrive.new.self.prefix) (left_of c.of_node-entries.result)) c.of_node-entries.ensures.lists refl (omega arith) _ _ c.enter.new.self c.enter.ensures _ c.among.ensures.pending,
-    rw c.among.ensures.high (branches-room _ _ _ c.args.above.now c.requires.0 _ _ c.requires.1 _ _ c.requires.2 _ c.arrive.new.self c.in-Some.ensures c.of_node-entries.result c.of_node-entries.ensures.lists (omega arith) _ _ c.enter.new.self c.enter.ensures _ c.among.ensures.pending _ (part-rest c.in-Some.lifted c.args.node.high.now) (omega arith)),
+    branches-ready _ _ _ c.args.above.now c.requires.0 _ _ _ c.arrive.new.self c.in-Some.ensures c.of_node-entries.result (count_among (passing c.arrive.new.self.trail) c.arrive.new.self.prefix (left_of c.of_node-entries.result)) c.of_node-entries.ensures.lists refl (omega arith) _ _ c.enter.new.self c.enter.ensures _ c.among.ensures.pending,
+    rw c.among.ensures.high (branches-room _ _ _ c.args.above.now c.requires.0 _ _ c.requires.1 _ _ c.requires.2 _ c.arrive.new.self c.in-Some.ensures c.of_node-entries.result c.of_node-entries.ensures.lists (omega arith) _ _ c.enter.new.self c.enter.ensures _ c.among.ensures.pending _ (part-rest c.in-Some.lifted c.args.node.high.now)),
     branches_sound c.args.above.now _ _ _ c.arrive.new.self c.in-Some.ensures c.args.store.now c.args.level c.args.node.number c.requires.0.reads c.requires.1 c.of_node-entries.result c.of_node-entries.ensures.lists (omega arith) c.enter.new.self _ _ _ (part-rest c.in-Some.lifted c.args.node.low.now) (part-rest c.in-Some.lifted c.args.node.high.now) c.enter.ensures _ c.among.ensures.pending c.among.ensures.high,
   ),
 )
 
 pub dump_node-insert_puts-all-requires : goal.dump_node-insert_puts-all-requires
-dump_node-insert_puts-all-requires t c = let v = c.if-level-le1.false in let f = c.arrive.new.self.full in let r = c.arrive.new.self.room in
-    (c.enter.new.self.room, own-lifts c.args.above.now c.arrive.new.self c.enter.new.self _ _ _ _ _ _ c.in-Some.ensures c.enter.ensures, puts_open _ _ _ c.args.above.now c.requires.0 _ _ c.requires.1 _ _ c.requires.2 _ c.arrive.new.self c.in-Some.ensures c.of_node-entries.result c.of_node-entries.ensures.lists (omega arith) _ _ c.enter.new.self c.enter.ensures _ c.among.ensures.pending _ (part-rest c.in-Some.lifted c.args.node.high.now) (omega arith) _ _ (rw c.among.ensures.high at c.dump_children-r.ensures))
+dump_node-insert_puts-all-requires t c = let v = c.if-level-le1.false in
+    (own-lifts c.args.above.now c.arrive.new.self c.enter.new.self _ _ _ _ _ _ c.in-Some.ensures c.enter.ensures, puts_open _ _ _ c.args.above.now c.requires.0 _ _ c.requires.1 _ _ c.requires.2 _ c.arrive.new.self c.in-Some.ensures c.of_node-entries.result c.of_node-entries.ensures.lists (omega arith) _ _ c.enter.new.self c.enter.ensures _ c.among.ensures.pending _ (part-rest c.in-Some.lifted c.args.node.high.now) _ _ (rw c.among.ensures.high at c.dump_children-r.ensures))
 
 pub dump_node-merge_rows-requires : goal.dump_node-merge_rows-requires
-dump_node-merge_rows-requires t c = let v = c.if-level-le1.false in let f = c.arrive.new.self.full in let r = c.arrive.new.self.room in
-    puts-apart _ _ _ c.args.above.now c.requires.0 _ _ c.requires.1 _ _ c.requires.2 _ c.arrive.new.self c.in-Some.ensures c.of_node-entries.result c.of_node-entries.ensures.lists (omega arith) _ _ c.enter.new.self c.enter.ensures _ c.among.ensures.pending _ (part-rest c.in-Some.lifted c.args.node.high.now) (omega arith) _ _ (rw c.among.ensures.high at c.dump_children-r.ensures) _ _ c.insert_puts-all.ensures
+dump_node-merge_rows-requires t c = let v = c.if-level-le1.false in
+    puts-apart _ _ _ c.args.above.now c.requires.0 _ _ c.requires.1 _ _ c.requires.2 _ c.arrive.new.self c.in-Some.ensures c.of_node-entries.result c.of_node-entries.ensures.lists (omega arith) _ _ c.enter.new.self c.enter.ensures _ c.among.ensures.pending _ (part-rest c.in-Some.lifted c.args.node.high.now) _ _ (rw c.among.ensures.high at c.dump_children-r.ensures) _ _ c.insert_puts-all.ensures
 
 pub dump_node-returns : goal.dump_node-returns
-dump_node-returns t c = let v = c.if-level-le1.false in let f = c.arrive.new.self.full in let r = c.arrive.new.self.room in
-    node-inner _ _ _ c.args.above.now c.requires.0 _ _ c.requires.1 _ _ c.requires.2 _ c.arrive.new.self c.in-Some.ensures c.of_node-entries.result c.of_node-entries.ensures.lists (omega arith) _ _ c.enter.new.self c.enter.ensures _ c.among.ensures.pending _ (part-rest c.in-Some.lifted c.args.node.high.now) (omega arith) _ _ (rw c.among.ensures.high at c.dump_children-r.ensures) _ _ c.insert_puts-all.ensures _ c.merge_rows.auto.area c.merge_rows.ensures
+dump_node-returns t c = let v = c.if-level-le1.false in
+    node-inner _ _ _ c.args.above.now c.requires.0 _ _ c.requires.1 _ _ c.requires.2 _ c.arrive.new.self c.in-Some.ensures c.of_node-entries.result c.of_node-entries.ensures.lists (omega arith) _ _ c.enter.new.self c.enter.ensures _ c.among.ensures.pending _ (part-rest c.in-Some.lifted c.args.node.high.now) _ _ (rw c.among.ensures.high at c.dump_children-r.ensures) _ _ c.insert_puts-all.ensures _ c.merge_rows.auto.area c.merge_rows.ensures

@@ -8,7 +8,6 @@ use Rattle.node.specs.Search.Own.{branch}
 use Rattle.node.specs.Spans.{pending_of}
 use Rattle.lookup.specs.Look.{node-inside, part-rest}
 use Rattle.octets.specs.Cap.{cap-small}
-use Rattle.live_count.specs.PathBuffers.{path_in}
 use Rattle.live_count.specs.Walk.{passing}
 use Rattle.live_count.specs.WalkLaws.{walk-none, walk-on}
 use Rattle.live_count.specs.NodeSteps.{node-long, node-leaf, node-inner, branches-ready, few-entries}
@@ -39,7 +38,7 @@ count_children-loop-child-preserved t c =
       g.keeps ∙ i.1,
       later-usable (nodes_of (length c.args.store.now)) (λ j. tree_at c.args.level c.args.store.now j) (branch c.in-Some.child.number c.in-Some.child.low.now) (pending_of c.next.new.self) (pending_of c.next.new.self) refl
           (ap (λ ks. usable_in (nodes_of (length c.args.store.now)) (forest_of (λ j. tree_at c.args.level c.args.store.now j) ks)) (sym g.first) ∙ i.2),
-      walk-on (λ j. tree_at c.args.level c.args.store.now j) (passing c.args.here.now.trail) (path_in c.args.here.now.prefix) c.args.children.high.now c.in-Some.child.number c.in-Some.child.low.now c.in-Some.child.high.now _ b _ _ _ _ _ g.first c.count_node-count.ensures.0 c.capped_sum-total.ensures.0 i.3,
+      walk-on (λ j. tree_at c.args.level c.args.store.now j) (passing c.args.here.now.trail) c.args.here.now.prefix c.args.children.high.now c.in-Some.child.number c.in-Some.child.low.now c.in-Some.child.high.now _ b _ _ _ _ _ g.first c.count_node-count.ensures.0 c.capped_sum-total.ensures.0 i.3,
       later-sound c.args.store.now c.args.level c.in-Some.child.number c.in-Some.child.low.now _ _ _ c.args.here.now i.4 g.first,
     )
 
@@ -71,8 +70,8 @@ count_node-count_children-under-requires t c = let v = c.if-level-le1.false in (
 )
 
 pub count_node-returns : goal.count_node-returns
-count_node-returns t c = let v = c.if-level-le1.false in let f = c.arrive.new.self.full in let r = c.arrive.new.self.room in (
+count_node-returns t c = let v = c.if-level-le1.false in (
   node-inner _ _ _ c.args.above.now c.requires.0 _ _ _ c.arrive.new.self c.in-Some.ensures c.of_node-entries.result c.count_entries-own.result c.of_node-entries.ensures.lists c.count_entries-own.ensures.0 (omega arith) _ _ c.enter.new.self c.enter.ensures _ c.among.ensures.pending
-      c.count_children-under.result _ _ (omega arith) (c.among.ensures.high ∙ part-rest c.in-Some.lifted c.args.node.high.now) c.count_children-under.ensures.0 c.capped_sum.ensures.0,
+      c.count_children-under.result _ _ (c.among.ensures.high ∙ part-rest c.in-Some.lifted c.args.node.high.now) c.count_children-under.ensures.0 c.capped_sum.ensures.0,
   c.capped_sum.ensures.1,
 )

@@ -1,19 +1,14 @@
--- `is_live` meets its contract: a path that is too long, a path with no node above, and a path that the trail decides.
--- Relies on specs/Steps.
-use Rattle.std.proofs.Common.{rules}
-use Rattle.std.specs.Prelude.{◌≡◌, length}
-use Rattle.image.specs.Prelude.{arith, ap, ◌∙◌}
-use Rattle.live_count.specs.PathBuffers.{path_in}
+-- `is_live` meets its contract: a path that is too long, and a path that the trail decides. Relies on specs/Steps.
+use Rattle.image.specs.Prelude.{ap, ◌∙◌}
 use Rattle.live_count.specs.Walk.{passing}
-use Rattle.live_count.specs.Steps.{key-long, key-free}
+use Rattle.live_count.specs.Steps.{key-long, key-lifts}
 use Rattle.live_count.proofs.trail.Trail.is_live.Goals as goal
 
-pub returns-then-prefix-key : goal.returns-then-prefix-key
-returns-then-prefix-key c = let h : length c.args.prefix.bytes ≡ 64 = search rules in key-long c.args.prefix c.args.self.now _ (omega arith) (omega arith)
+pub returns-in_default : goal.returns-in_default
+returns-in_default c = key-long c.args.prefix.now c.args.self.now c.args.key.now c.in_default.ensures
 
-pub returns-then-self-eq0 : goal.returns-then-self-eq0
-returns-then-self-eq0 c = let h : length c.args.prefix.bytes ≡ 64 = search rules in key-free c.args.prefix c.args.self.now _ (omega arith) (omega arith) c.if-self-eq0.true
+pub is_visible-requires : goal.is_visible-requires
+is_visible-requires c = rw c.as_slice.ensures.held (c.as_slice.ensures.short, key-lifts c.args.prefix.now c.args.self.now c.args.key.now _ c.in-Some.ensures c.requires)
 
 pub returns : goal.returns
-unfolding path_in
-returns c = c.is_visible.ensures ∙ ap (λ q. passing c.args.self.now q) c.extend-full.ensures.0
+returns c = c.is_visible.ensures ∙ ap (λ q. passing c.args.self.now q) (c.as_slice.ensures.held ∙ c.in-Some.ensures)

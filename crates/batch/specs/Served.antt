@@ -1,17 +1,15 @@
 -- What a batch keeps from turn to turn, and what each part of it promises.
 -- Relies on image's Batch (requests, answers, the contract) and on questions (1 and 2 are a yes).
-use Rattle.std.specs.Prelude.{ℕ, ◌+◌, ◌-◌, ◌<◌, ◌≤◌, ◌≡◌, List, [], ◌++◌, length, drop, Result, Some, None}
+use Rattle.std.specs.Prelude.{ℕ, ◌+◌, ◌-◌, ◌≤◌, ◌≡◌, List, [], ◌∷◌, ◌++◌, length, Result, Some, None}
 use Rattle.std.specs.Prelude as std
-use Rattle.image.specs.Prelude.{Option, none, some}
 use Rattle.image.specs.Image.{nodes_of}
 use Rattle.image.specs.Calls.{Answer}
 use Rattle.image.specs.Contract.{Meets, Run}
 use Rattle.image.specs.Answers.{outcome_answer}
-use Rattle.image.specs.Batch.{Request, first_request, behind, requests_of, call_of, calls_of, answer_bytes, answers_bytes, most_bytes, HadRoom, zeroed, BatchRuns}
+use Rattle.image.specs.Batch.{Request, requests_of, call_of, calls_of, answer_bytes, answers_bytes, most_bytes, Stopped, HadRoom, zeroed, BatchRuns}
 use Rattle.image.specs.declared.Refusal.{Refusal}
 use Rattle.octets.specs.Put.{put}
 use Rattle.questions.specs.Acted.{Passed}
-use Rattle.batch.specs.declared.Turn.{Turn}
 use Rattle.batch.specs.declared.Batched.{Batched}
 
 -- questions 1 and 2 are a yes, and the work area is zero where a call may use it
@@ -32,15 +30,12 @@ pub record Written (s : List ℕ) (q : Request) (out : List ℕ) (at : ℕ) (out
   pub ends : end ≡ at + length (answer_bytes given)
   pub fits : end ≤ length out
 
--- a turn that goes on: the call of the piece at a place was made
-pub record Goes (s w calls : List ℕ) (at : ℕ) (out : List ℕ) (written : ℕ) (s' w' out' : List ℕ) (end written' : ℕ) : Type 0 where
+-- a turn that goes on: the call of the first request left was made
+pub record Goes (s w : List ℕ) (left : List Request) (out : List ℕ) (written : ℕ) (s' w' : List ℕ) (left' : List Request) (out' : List ℕ) (written' : ℕ) : Type 0 where
   pub request : Request
   pub given : Answer
   pub area : List ℕ
-  pub first : first_request (drop at calls) ≡ some request
-  pub later : behind (drop at calls) ≡ drop end calls
-  pub moves : at < end
-  pub high : end ≤ length calls
+  pub first : left ≡ request ∷ left'
   pub met : Meets s (call_of w request) given s' area
   pub kept : w' ≡ w
   pub had_room : most_bytes request ≤ length out - written
@@ -48,20 +43,16 @@ pub record Goes (s w calls : List ℕ) (at : ℕ) (out : List ℕ) (written : �
   pub ends : written' ≡ written + length (answer_bytes given)
   pub fits : written' ≤ length out
 
--- a turn that stops: nothing reads, or its answer might not fit
-unfoldable pub Halts : Option Request → ℕ → Type 0
-Halts none room = Unit {0}
-Halts (some r) room = room < most_bytes r
+-- a turn that stops: nothing is left, or its answer might not fit
+abbrev pub Turned : List ℕ → List ℕ → List Request → List ℕ → ℕ → List ℕ → List ℕ → List Request → List ℕ → std.Option ℕ → Type 0
+Turned s w left out written s' w' left' out' None = (s' ≡ s) × (w' ≡ w) × (out' ≡ out) × Stopped left (length out - written)
+Turned s w left out written s' w' left' out' (Some behind) = Goes s w left out written s' w' left' out' behind
 
-unfoldable pub Turned : List ℕ → List ℕ → List ℕ → ℕ → List ℕ → ℕ → List ℕ → List ℕ → List ℕ → std.Option Turn → Type 0
-Turned s w calls at out written s' w' out' None = (s' ≡ s) × (w' ≡ w) × (out' ≡ out) × Halts (first_request (drop at calls)) (length out - written)
-Turned s w calls at out written s' w' out' (Some t) = Goes s w calls at out written s' w' out' t.end t.behind
-
--- the turns so far: the requests before a place are a run of calls, whose answers stand in front
-pub record SoFar (s₀ w₀ calls out₀ s w out : List ℕ) (at done written : ℕ) : Type 0 where
+-- the turns so far: the requests in front of those left are a run of calls, whose answers stand in front
+pub record SoFar (s₀ w₀ calls out₀ s w out : List ℕ) (left : List Request) (done written : ℕ) : Type 0 where
   pub before : List Request
   pub given : List Answer
-  pub split : requests_of calls ≡ before ++ requests_of (drop at calls)
+  pub split : requests_of calls ≡ before ++ left
   pub count : length before ≡ done
   pub run : Run s₀ (calls_of w₀ before) given s
   pub fresh : Fresh s w₀
@@ -71,8 +62,6 @@ pub record SoFar (s₀ w₀ calls out₀ s w out : List ℕ) (at done written : 
   pub length_is : written ≡ length (answers_bytes given)
   pub fits : written ≤ length out₀
   pub had_room : HadRoom before given (length out₀)
-  pub place : at ≤ length calls
-  pub few : done ≤ at
 
 -- a batch whose work area is zero already
 unfoldable pub Batching : List ℕ → List ℕ → List ℕ → List ℕ → Batched → List ℕ → List ℕ → List ℕ → Type 0

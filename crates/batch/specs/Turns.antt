@@ -7,7 +7,7 @@ use Rattle.image.specs.Sound.{sound}
 use Rattle.image.specs.Calls.{acts, settle, work_per_node, work_long, questions, act_questions}
 use Rattle.image.specs.Contract.{node_questions, first_no_on, Meets, Run, stop}
 use Rattle.image.specs.Answers.{refusal_number}
-use Rattle.image.specs.Batch.{Request, first_request, requests_of, call_of, calls_of, answer_bytes, answers_bytes, most_bytes, Stopped, HadRoom, batch_no, zeroed, BatchRuns, BatchMeets}
+use Rattle.image.specs.Batch.{Request, requests_of, call_of, calls_of, answer_bytes, answers_bytes, most_bytes, Stopped, HadRoom, batch_no, zeroed, BatchRuns, BatchMeets}
 use Rattle.image.specs.declared.Refusal.{Refusal}
 use Rattle.node.specs.Whole.{whole_parts}
 use Rattle.octets.specs.Put.{put, put-put, put-size, put-nil}
@@ -18,13 +18,13 @@ use Rattle.questions.specs.Callers.{to_act, plain-settle, plain-number}
 use Rattle.finish.specs.Finished.{cleared-size, cleared-later, cleared-again}
 use Rattle.questions.specs.Asked.{Fit, Asked, asked-fit, asked-refused}
 use Rattle.tree_check.specs.declared.Tally.{Tally}
-use Rattle.batch.specs.declared.Turn.{Turn}
 use Rattle.batch.specs.declared.Batched.{Batched}
-use Rattle.batch.specs.Requests.{requests-end, requests-more, calls-more, bytes-more, run_more, room-more}
-use Rattle.batch.specs.Served.{Fresh, Goes, Halts, Turned, SoFar, Batching}
+use Rattle.requests.specs.Requests.{requests-few}
+use Rattle.batch.specs.Requests.{calls-more, bytes-more, run_more, room-more}
+use Rattle.batch.specs.Served.{Fresh, Goes, Turned, SoFar, Batching}
 
 -- THE LOOP
-pub begins : (s w calls out : List ℕ) → Fresh s w → SoFar s w calls out s w out 0 0 0
+pub begins : (s w calls out : List ℕ) → Fresh s w → SoFar s w calls out s w out (requests_of calls) 0 0
 unfolding calls_of answers_bytes HadRoom
 begins s w calls out f =
     record {
@@ -40,29 +40,23 @@ begins s w calls out f =
       length_is = refl;
       fits = omega arith;
       had_room = tt;
-      place = omega arith;
-      few = omega arith;
     }
 
-module _ (s₀ w₀ calls out₀ s w out : List ℕ) (at done written : ℕ) (f : SoFar s₀ w₀ calls out₀ s w out at done written) where
+module _ (s₀ w₀ calls out₀ s w out : List ℕ) (left : List Request) (done written : ℕ) (f : SoFar s₀ w₀ calls out₀ s w out left done written) where
   out-size : length out ≡ length out₀
   out-size = ap length f.bytes ∙ put-size out₀ 0 (answers_bytes f.given) (let a = f.length_is in let b = f.fits in omega arith)
 
   -- what a turn asks
-  pub turn-asks : Fresh s w × (at ≤ length calls) × (written ≤ length out)
-  turn-asks = (
-    subst (Fresh s) (sym f.area) f.fresh,
-    f.place,
-    omega (arith, f.fits, out-size),
-  )
+  pub turn-asks : Fresh s w × (written ≤ length out)
+  turn-asks = (subst (Fresh s) (sym f.area) f.fresh, omega (arith, f.fits, out-size))
 
-  module _ (s' w' out' : List ℕ) (turn : std.Option Turn) (t : Turned s w calls at out written s' w' out' turn) where
-    pub went : (x : Turn) → turn ≡ Some x → Goes s w calls at out written s' w' out' x.end x.behind
-    went x e = unfold Turned in subst (Turned s w calls at out written s' w' out') e t
+  module _ (s' w' out' : List ℕ) (left' : List Request) (turn : std.Option ℕ) (t : Turned s w left out written s' w' left' out' turn) where
+    went : (behind : ℕ) → turn ≡ Some behind → Goes s w left out written s' w' left' out' behind
+    went behind e = subst (Turned s w left out written s' w' left' out') e t
 
     -- a turn more
-    pub goes-on : (x : Turn) → turn ≡ Some x → SoFar s₀ w₀ calls out₀ s' w' out' x.end (done + 1) x.behind
-    goes-on x e =
+    pub goes-on : (behind : ℕ) → turn ≡ Some behind → SoFar s₀ w₀ calls out₀ s' w' out' left' (done + 1) behind
+    goes-on behind e =
         record {
           before = f.before ++ (g.request ∷ []);
           given = f.given ++ (g.given ∷ []);
@@ -76,21 +70,16 @@ module _ (s₀ w₀ calls out₀ s w out : List ℕ) (at done written : ℕ) (f 
           length_is = length_more;
           fits = (let z = out-size in omega (arith, g.fits));
           had_room = room-more w₀ f.before (length out₀) g.request g.given f.run f.had_room room_left;
-          place = g.high;
-          few = (let a = f.few in let b = g.moves in omega arith);
         }
       where
-        g : Goes s w calls at out written s' w' out' x.end x.behind
-        g = went x e
+        g : Goes s w left out written s' w' left' out' behind
+        g = went behind e
 
         met : Meets s (call_of w₀ g.request) g.given s' g.area
         met = subst (λ v. Meets s (call_of v g.request) g.given s' g.area) f.area g.met
 
-        split-more : requests_of calls ≡ (f.before ++ (g.request ∷ [])) ++ requests_of (drop x.end calls)
-        split-more =
-            f.split
-            ∙ ap (λ l. f.before ++ l) (requests-more (drop at calls) g.request g.first ∙ ap (λ l. g.request ∷ requests_of l) g.later)
-            ∙ sym (append_assoc f.before (g.request ∷ []) (requests_of (drop x.end calls)))
+        split-more : requests_of calls ≡ (f.before ++ (g.request ∷ [])) ++ left'
+        split-more = f.split ∙ ap (λ l. f.before ++ l) g.first ∙ sym (append_assoc f.before (g.request ∷ []) left')
 
         fresh-more : Fresh s' w₀
         fresh-more =
@@ -120,13 +109,19 @@ module _ (s₀ w₀ calls out₀ s w out : List ℕ) (at done written : ℕ) (f 
             ∙ put-put out₀ 0 (answers_bytes f.given) (answer_bytes g.given) (omega (arith, whole_length))
             ∙ ap (put out₀ 0) (sym (bytes-more f.given g.given))
 
-        length_more : x.behind ≡ length (answers_bytes (f.given ++ (g.given ∷ [])))
+        length_more : behind ≡ length (answers_bytes (f.given ++ (g.given ∷ [])))
         length_more =
             g.ends ∙ ap (λ k. k + length (answer_bytes g.given)) f.length_is
             ∙ sym (length-append (answers_bytes f.given) (answer_bytes g.given)) ∙ ap length (sym (bytes-more f.given g.given))
 
-    pub moved : (x : Turn) → turn ≡ Some x → (at < x.end) × (x.end ≤ length calls) × (done ≤ at)
-    moved x e = let g = went x e in (g.moves, g.high, f.few)
+    -- one request less is left, and there were more than those done
+    pub moved : (behind : ℕ) → turn ≡ Some behind → (length left' < length left) × (done < length calls)
+    moved behind e =
+        let g = went behind e in
+        let a : length left ≡ suc (length left') = ap length g.first in
+        let b = ap length f.split ∙ length-append f.before left in
+        let c = requests-few calls in
+        (omega arith, omega (arith, f.count))
 
     -- the end
     pub ends : turn ≡ None → Batching s₀ w₀ calls out₀ (record { number = 0; done = done; written = written }) s' w' out'
@@ -142,23 +137,23 @@ module _ (s₀ w₀ calls out₀ s w out : List ℕ) (at done written : ℕ) (f 
             answers = h.2 ∙ f.bytes ∙ put_front;
             length_is = f.length_is;
             fits = f.fits;
-            among = (let z = ap length f.split ∙ length-append f.before (requests_of (drop at calls)) in let y = f.count in omega arith);
+            among = (let z = ap length f.split ∙ length-append f.before (left) in let y = f.count in omega arith);
             had_room = subst (λ l. HadRoom l f.given (length out₀)) (sym done-are) f.had_room;
             stopped = subst (λ l. Stopped l (length out₀ - written)) (sym rest-is) why;
           },
         )
       where
-        h : (s' ≡ s) × (w' ≡ w) × (out' ≡ out) × Halts (first_request (drop at calls)) (length out - written)
-        h = unfold Turned in subst (Turned s w calls at out written s' w' out') e t
+        h : (s' ≡ s) × (w' ≡ w) × (out' ≡ out) × Stopped left (length out - written)
+        h = subst (Turned s w left out written s' w' left' out') e t
 
         zero-first : w₀ ≡ zeroed (nodes_of (length s₀)) w₀
         zero-first = subst (λ k. w₀ ≡ zeroed (nodes_of k) w₀) f.size f.fresh.zero_area
 
         done-are : take done (requests_of calls) ≡ f.before
-        done-are = ap (take done) f.split ∙ take_at f.before (requests_of (drop at calls)) done f.count
+        done-are = ap (take done) f.split ∙ take_at f.before (left) done f.count
 
-        rest-is : drop done (requests_of calls) ≡ requests_of (drop at calls)
-        rest-is = ap (drop done) f.split ∙ drop_at f.before (requests_of (drop at calls)) done f.count
+        rest-is : drop done (requests_of calls) ≡ left
+        rest-is = ap (drop done) f.split ∙ drop_at f.before (left) done f.count
 
         calls_are : calls_of w₀ f.before ≡ calls_of (zeroed (nodes_of (length s₀)) w₀) (take done (requests_of calls))
         calls_are = ap₂ (λ x rs. calls_of x rs) zero-first (sym done-are)
@@ -166,12 +161,8 @@ module _ (s₀ w₀ calls out₀ s w out : List ℕ) (at done written : ℕ) (f 
         put_front : put out₀ 0 (answers_bytes f.given) ≡ answers_bytes f.given ++ drop written out₀
         put_front = unfold put in let z : 0 + length (answers_bytes f.given) ≡ written = omega (arith, f.length_is) in ap (λ k. answers_bytes f.given ++ drop k out₀) z
 
-        why : Stopped (requests_of (drop at calls)) (length out₀ - written)
-        why = by_first (first_request (drop at calls)) refl (subst (λ n. Halts (first_request (drop at calls)) (n - written)) out-size h.3)
-          where
-            by_first : (o : Option Request) → first_request (drop at calls) ≡ o → Halts o (length out₀ - written) → Stopped (requests_of (drop at calls)) (length out₀ - written)
-            by_first none q x = subst (λ l. Stopped l (length out₀ - written)) (sym (requests-end (drop at calls) q)) (unfold Stopped in tt)
-            by_first (some r) q x = subst (λ l. Stopped l (length out₀ - written)) (sym (requests-more (drop at calls) r q)) (unfold Stopped Halts in x)
+        why : Stopped left (length out₀ - written)
+        why = subst (λ n. Stopped left (n - written)) out-size h.3
 
 -- THE WHOLE
 number_is : (s w : List ℕ) → first_no_on s (acts settle w) ≡ batch_no s w

@@ -228,10 +228,6 @@ pub record Inserting (first : ℕ) (area₀ area : List ℕ) (m : ℕ) (ok : Lis
   pub front : rows_of first area 0 ≡ rows_of first area₀ 0
   pub size : length area ≡ length area₀
 
-pub insert-first : (first : ℕ) (area : List ℕ) (m : ℕ) (ok : List ℕ → Bool) (prefix : List ℕ) (es : List defined.Entry) → Open area first m ok prefix es
-    → Inserting first area area m ok prefix es (insert_among ok prefix es (rows_of (m - first) area first))
-insert-first first area m ok prefix es o = record { opened = o; whole = refl; front = refl; size = refl }
-
 module _ (first : ℕ) (area₀ area : List ℕ) (m : ℕ) (ok : List ℕ → Bool) (prefix : List ℕ) (es : List defined.Entry) (all : List Row)
     (a : Inserting first area₀ area m ok prefix es all) where
   pub insert-end : es ≡ [] → Placed first area₀ area m all

@@ -230,9 +230,6 @@ module _ (s : List ℕ) (level : ℕ) (prefix hi : List ℕ) (ok : List ℕ → 
     pub room : Room area m (below ks)
     pub whole : all ≡ done ++ below ks
 
-  pub descend-first : (first : ℕ) (area : List ℕ) (ks : List Branch) → Room area first (below ks) → Descending first area area first ks (below ks)
-  descend-first first area ks r = record { done = []; so_far = added_none first area [] refl r.fit; room = r; whole = refl }
-
   no-branches : below [] ≡ []
   unfolding rows_in forest_of keep
   no-branches = refl

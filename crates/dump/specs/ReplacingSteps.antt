@@ -103,9 +103,6 @@ pub record Setting (m : ℕ) (area₀ area : List ℕ) (all : ℕ) (es : List de
   pub table : put_among [] es (laid area m all) ≡ t
   pub size : length area ≡ length area₀
 
-pub setting-first : (m : ℕ) (area : List ℕ) (all : ℕ) (es : List defined.Entry) → Unset area m all es → Setting m area area all es (put_among [] es (laid area m all))
-setting-first m area all es u = record { unset = u; table = refl; size = refl }
-
 module _ (m : ℕ) (area₀ area : List ℕ) (all : ℕ) (es : List defined.Entry) (t : List Row) (a : Setting m area₀ area all es t) where
   pub setting-end : es ≡ [] → Laid m area₀ area all t
   unfolding put_among

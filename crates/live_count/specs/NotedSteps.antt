@@ -1,5 +1,5 @@
 -- Step lemmas of the count by notes that are handed down. Relies on the definitions of Noted and on the contracts of notes.
-use Rattle.std.specs.Prelude.{ℕ, suc, ◌+◌, ◌<◌, ◌≤◌, ◌≡◌, refl, List, [], ◌∷◌, ◌++◌, Bool, true, ◌&&◌, length, take, drop, get_or, IsSome, is_some, unwrap_or}
+use Rattle.std.specs.Prelude.{ℕ, suc, ◌+◌, ◌<◌, ◌≤◌, ◌≡◌, refl, List, [], ◌∷◌, ◌++◌, Bool, true, ◌&&◌, length, take, drop, get_or, IsSome, unwrap_or}
 use Rattle.std.specs.List.{list_all, All}
 use Rattle.std.proofs.lemmas.List.Folds.{list_all_more}
 use Rattle.image.specs.Prelude.{sym, ap, ap₂, ◌∙◌, append_assoc, arith, length-append, drop-append-le, drop_at, take_all}
@@ -37,9 +37,6 @@ all-quiet (x ∷ xs) prefix k h =
 pub passes-quiet : (xs : List Stage) (prefix k : List ℕ) → All (λ x. x.lift ≤ length prefix) xs → passes xs (prefix ++ k) ≡ short (prefix ++ k) && list_all (quiet_at prefix k) xs
 unfolding passes
 passes-quiet xs prefix k h = ap (λ b. short (prefix ++ k) && b) (all-quiet xs prefix k h)
-
-some-count : (n : Notes) → Empty n → IsSome n.count
-some-count n e = ap is_some e
 
 pub empty-quiet : (n : Notes) (k : List ℕ) → Empty n → silent n k ≡ true
 empty-quiet n k e = ap (λ c. quiet (take (unwrap_or c 0) n.each) k) e

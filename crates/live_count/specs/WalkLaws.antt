@@ -152,6 +152,3 @@ module _ (under : ℕ → Tree) (ok : List ℕ → Bool) (prefix hi : List ℕ) 
         let a : total + A + B ≡ total + (A + B) = omega arith in
         ap (λ z. cap (z + B)) g ∙ cap-front (total + A) B ∙ ap cap a
         ∙ ap (λ z. cap (total + z)) (sym branches-more) ∙ ap (λ l. cap (total + live_branches (forest_of under l) ok prefix hi)) (sym q) ∙ inv
-
-pub walk_start : (N : ℕ) → cap (0 + N) ≡ cap N
-walk_start N = let e : 0 + N ≡ N = omega arith in ap cap e

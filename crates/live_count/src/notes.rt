@@ -108,13 +108,14 @@ impl<'b> Keys<'b> {
     }
 }
 
-// At most 64 notes, the oldest first: none where there was no room, and then they tell nothing.
+// At most 48 notes, the oldest first; their count is none where there was no room, and then they tell nothing. A root written full holds 45 drops of
+// paths of 18 bytes. With 64, the deepest walk took more stack than the library may: each level has its own notes.
 #[derive(Clone, Copy)]
 pub struct Notes<'a> {
-    pub each: [Note<'a>; 64],
+    pub each: [Note<'a>; 48],
     pub count: Option<usize>,
-    ghost full: { length each ≡ 64 },
-    ghost few: { unwrap_or count 0 ≤ 64 },
+    ghost full: { length each ≡ 48 },
+    ghost few: { unwrap_or count 0 ≤ 48 },
 }
 
 impl<'a> Notes<'a> {
@@ -131,7 +132,7 @@ impl<'a> Notes<'a> {
             path: &[],
         };
         Notes {
-            each: [note; 64],
+            each: [note; 48],
             count: Some(0),
         }
     }
@@ -165,7 +166,7 @@ impl<'a> Notes<'a> {
                 return;
             }
         }
-        if 64 <= count {
+        if 48 <= count {
             self.count = None;
             return;
         }

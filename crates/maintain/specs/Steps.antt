@@ -18,7 +18,9 @@ use Rattle.laws.specs.Upkeep.Kept.{gains-none-empty}
 use Rattle.laws.specs.Upkeep.Healed.{place-test}
 use Rattle.rebuild.specs.Rebuild.{Rebuilt, cleared}
 use Rattle.questions.specs.Callers.{to_act, to_keep, later_no, later-number, act-meets, act-refused, plain-settle, plain-number, settle-meets, tidy-meets}
+use Rattle.push.specs.Callers.{done-is, no-room-is}
 use Rattle.push.specs.Laws.PushedDown.{PushedDown}
+use Rattle.push.specs.Outcome as push
 use Rattle.merge.specs.Laws.Mended.{HealedNode}
 use Rattle.questions.specs.Acted.{Passed}
 use Rattle.maintain.specs.Upkept.{Stayed, Upkept, Upheld}
@@ -165,3 +167,12 @@ unpushed-passed s s₁ w p e = subst (λ x. Passed x w) (sym e) p
 
 pub unpushed-flushes : (node : ℕ) (s s₁ s₂ w w₂ : List ℕ) → s₁ ≡ s → Upkept false s₁ s₂ w w₂ → Upheld flush node s s₂ w w₂
 unpushed-flushes node s s₁ s₂ w w₂ e u = subst (λ x. Upheld flush node x s₂ w w₂) e (flushes node s₁ s₂ w w₂ u)
+
+-- either of these, by the answer of the push
+pub flushed-passed : (node : ℕ) (done : Bool) (s s₁ w : List ℕ) → Passed s w → push.Outcome s node done s₁ → Passed s₁ w
+flushed-passed node true s s₁ w p h = pushed-passed node s s₁ w p (done-is s node true s₁ h refl)
+flushed-passed node false s s₁ w p h = unpushed-passed s s₁ w p (no-room-is s node false s₁ h refl)
+
+pub flushed-upheld : (node : ℕ) (done : Bool) (s s₁ s₂ w w₂ : List ℕ) → push.Outcome s node done s₁ → Upkept done s₁ s₂ w w₂ → Upheld flush node s s₂ w w₂
+flushed-upheld node true s s₁ s₂ w w₂ h u = pushed-flushes node s s₁ s₂ w w₂ (done-is s node true s₁ h refl) u
+flushed-upheld node false s s₁ s₂ w w₂ h u = unpushed-flushes node s s₁ s₂ w w₂ (no-room-is s node false s₁ h refl) u

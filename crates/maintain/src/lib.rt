@@ -16,7 +16,6 @@ ghost use Rattle.questions.specs.Acted.{Passed};
 ghost use Rattle.maintain.specs.Upkept.{Upkept, Upheld};
 
 use image::Refusal;
-use push::Pushed;
 
 // Ends an accepted call. Where the store already is as the call asks, only the work area is cleared; else the store is rebuilt.
 fn rebuild_unless(done: bool, store: &mut [u8], work: &mut [u8])
@@ -88,10 +87,7 @@ fn act_flush(store: &mut [u8], work: &mut [u8], node: usize)
     ensures { Upheld flush node store.old store.new work.old work.new }
 {
     let pushed = push::push_down(store, node);
-    match pushed {
-        Pushed::Done => rebuild_unless(true, store, work),
-        Pushed::NoRoom => rebuild_unless(false, store, work),
-    }
+    rebuild_unless(pushed, store, work);
 }
 
 // flush, on a store and a work area that are fit; `seen` has the marks of the nodes in use.

@@ -54,7 +54,8 @@ fn weigh_entries(entries: Entries, more: usize, used: usize) -> Option<usize>
     let mut sum = used;
     for entry in entries {
         sum += weigh_entry(entry, more)?;
-        if image::ENTRIES_LIMIT < sum {
+        let over = image::ENTRIES_LIMIT < sum;
+        if over {
             return None;
         }
     }

@@ -4,7 +4,6 @@ pub mod Fitted
 pub mod Lent
 pub mod Content
 pub mod Spans
-pub mod Places
 pub mod Whole
 pub mod Writer
 pub mod Pages

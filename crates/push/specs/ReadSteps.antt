@@ -1,8 +1,8 @@
 -- Step lemmas of the tests and sizes: which messages touch a child, and how many bytes they bring.
 -- Relies on Laws/Arriving and on what node's readers lend.
-use Rattle.std.specs.Prelude.{ℕ, ◌+◌, ◌-◌, ◌*◌, ◌<◌, ◌≤◌, ◌≡◌, refl, List, [], ◌∷◌, Bool, true, false, ◌||◌, ◌&&◌, cond, length, take, drop, leb}
+use Rattle.std.specs.Prelude.{ℕ, ◌+◌, ◌*◌, ◌<◌, ◌≤◌, ◌≡◌, refl, List, [], ◌∷◌, Bool, true, false, ◌||◌, ◌&&◌, cond, length, take, drop, leb}
 use Rattle.std.specs.Borrow.{Bor}
-use Rattle.image.specs.Prelude.{sym, ap, ◌∙◌, arith, length-append, length-drop, length-take, drop_of_length-le, lt-leb, le-ltb, lt-ltb}
+use Rattle.image.specs.Prelude.{sym, ap, ◌∙◌, arith, length-append, length-drop, le-ltb, lt-ltb}
 use Rattle.image.specs.Bytes.{u16, begins, shared}
 use Rattle.image.specs.Entry as defined
 use Rattle.image.specs.Image.{Branch, nodes_of}
@@ -10,9 +10,7 @@ use Rattle.laws.specs.Encode.{bytes_of, bytes_of_all}
 use Rattle.laws.specs.PushDown.{touches}
 use Rattle.laws.specs.Upkeep.Size.{put-size, drop-size, clear-size}
 use Rattle.laws.specs.Reading.Relative.{branch_high}
-use Rattle.node.specs.Cut.{cut, cut-drop, cut-nil}
 use Rattle.node.specs.Lent.{message_is, entry_is}
-use Rattle.node.specs.declared.Place.{Place}
 use Rattle.node.specs.declared.entries.Message.{Message}
 use Rattle.node.specs.declared.entries.Entry.{Entry}
 use Rattle.node.specs.Search.Own.{branch}
@@ -21,15 +19,6 @@ use Rattle.push.specs.Laws.Leaves.{leaf_takes_one}
 use Rattle.push.specs.Laws.Written.{has_room, all_have_room}
 use Rattle.push.specs.Brings.{Silent, Arrives}
 use Rattle.octets.specs.Beginnings.{shared-take}
-
--- A PART WITHOUT ITS FIRST BYTES
-pub past_end : (p : Place) (k : ℕ) → p.start ≤ p.stop → p.stop - p.start < k → (s : List ℕ) → cut s p.stop p.stop ≡ drop k (cut s p.start p.stop)
-past_end p k r h s =
-    let n = length-take (p.stop - p.start) (drop p.start s) in
-    cut-nil s p.stop p.stop (omega arith) ∙ sym (drop_of_length-le (cut s p.start p.stop) {i = k} (omega arith))
-
-pub past-on : (p : Place) (k : ℕ) → p.start ≤ p.stop → k ≤ p.stop - p.start → (s : List ℕ) → cut s (p.start + k) p.stop ≡ drop k (cut s p.start p.stop)
-past-on p k r h s = sym (cut-drop s p.start p.stop k (omega arith))
 
 -- WHAT THE CHILD LIFTS
 lifted-is : (lo hi : List ℕ) (k : ℕ) → k ≡ length (shared lo hi) → take k lo ≡ shared lo hi
@@ -94,9 +83,6 @@ module _ (es ts : List defined.Entry) (e : defined.Entry) (q : es ≡ e ∷ ts) 
 
 -- THE SUM OF WHAT ALL ENTRIES BRING
 module _ (lo hi : List ℕ) (es : List defined.Entry) (sum : ℕ) (answer : Bool) (inv : leb (sum + length (brought_all es lo hi)) 1016 ≡ answer) where
-  pub fit-over : 1016 < sum → false ≡ answer
-  fit-over h = sym (lt-leb (sum + length (brought_all es lo hi)) 1016 (omega arith)) ∙ inv
-
   pub fit-end : es ≡ [] → leb sum 1016 ≡ answer
   unfolding brought_all
   fit-end e =

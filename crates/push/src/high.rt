@@ -33,7 +33,7 @@ fn search_node<'a>(store: &'a [u8], top: Branch<'a>, level: usize, num: usize) -
 }
 
 // The high pivot of node `num` of a sound image.
-fn find_high(store: &[u8], num: usize) -> Option<&[u8]>
+pub fn find_high(store: &[u8], num: usize) -> Option<&[u8]>
     requires { sound store.now ≡ true }
     ensures { value_is result ≡ high_here num (tree_of store.now) [] highest }
 {

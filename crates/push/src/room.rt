@@ -4,14 +4,12 @@ ghost use Rattle.std.specs.Prelude.{◌≡◌, List, ℕ, ◌<◌, ◌≤◌, �
 ghost use Rattle.image.specs.Entry.{message};
 ghost use Rattle.laws.specs.Encode.{bytes_of, bytes_of_all};
 ghost use Rattle.laws.specs.PushDown.{touches};
-ghost use Rattle.node.specs.Cut.{cut};
 ghost use Rattle.node.specs.Lent.{entry_is, message_is, left_of};
 ghost use Rattle.node.specs.Spans.{pending_of};
 ghost use Rattle.push.specs.Laws.Arriving.{lowered_by, brought_all};
 ghost use Rattle.push.specs.Laws.Written.{has_room, all_have_room};
 ghost use Rattle.push.specs.Brings.{Brings};
 
-use node::Place;
 use node::branches::{Branch, Branches};
 use node::entries::{Entries, Entry, Message};
 
@@ -27,19 +25,6 @@ fn touches_child(given: Message, child: Branch) -> bool
             octets::begins_with(key, lifted) || octets::begins_with(lifted, key)
         }
     }
-}
-
-// Where a part begins without its first k bytes: at its end if it has no more.
-pub fn start_past(p: Place, k: usize) -> usize
-    requires { p.start ≤ p.stop }
-    ensures { (p.start ≤ result) × (result ≤ p.stop) × ((s : List ℕ) → cut s result p.stop ≡ drop k (cut s p.start p.stop)) }
-{
-    let a = p.start;
-    let b = p.stop;
-    if b - a < k {
-        return b;
-    }
-    a + k
 }
 
 // A key without its first k bytes: empty if it has no more.

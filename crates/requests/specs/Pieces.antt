@@ -1,79 +1,60 @@
--- What the places of a piece hold, and what its reader promises.
-use Rattle.std.specs.Prelude.{ℕ, ◌+◌, ◌<◌, ◌≤◌, ◌≡◌, List, ◌++◌, cond, length, drop, eqb, Some, None}
-use Rattle.std.specs.Prelude as std
-use Rattle.image.specs.Prelude.{Option, none, some}
+-- The request that a piece stands for, the requests that are left to be read, and what the readers promise.
+use Rattle.std.specs.Prelude.{ℕ, ◌+◌, ◌≤◌, ◌≡◌, List, [], ◌∷◌, ◌++◌, length}
+use Rattle.image.specs.Prelude.{none, some}
 use Rattle.image.specs.Path.{path_limit, value_limit}
-use Rattle.image.specs.Bytes.{u16_bytes}
+use Rattle.image.specs.Bytes.{u16, u16_bytes}
 use Rattle.image.specs.Calls as calls
-use Rattle.image.specs.Batch.{Request, acting, keeping, asking, plain_of, node_of, first_request, behind}
-use Rattle.node.specs.Places.{part, Within}
+use Rattle.image.specs.Batch.{Request, acting, keeping, asking, request_of, first_request, behind, requests_of}
 use Rattle.requests.specs.declared.Change.{Change}
 use Rattle.requests.specs.declared.Query.{Query}
 use Rattle.requests.specs.declared.Piece.{Piece}
-use Rattle.requests.specs.declared.Reading.{Reading}
+use Rattle.requests.specs.declared.Pieces.{Pieces}
 
--- the request that a piece of the bytes s is
-unfoldable pub change_in : List ℕ → Change → Request
-change_in s (Change.Put p v) = acting (calls.put (part s p) (part s v))
-change_in s (Change.Drop p) = acting (calls.drops (part s p))
-change_in s (Change.Clear p) = acting (calls.clear (part s p))
-change_in s (Change.Move p q) = acting (calls.move (part s p) (part s q))
-change_in s Change.Settle = acting calls.settle
-change_in s Change.Tidy = acting calls.tidy
-change_in s (Change.Flush i) = keeping calls.flush i
-change_in s (Change.Heal i) = keeping calls.heal i
+abbrev pub change_is : Change → Request
+change_is (Change.Put p v) = acting (calls.put p.now v.now)
+change_is (Change.Drop p) = acting (calls.drops p.now)
+change_is (Change.Clear p) = acting (calls.clear p.now)
+change_is (Change.Move p q) = acting (calls.move p.now q.now)
+change_is Change.Settle = acting calls.settle
+change_is Change.Tidy = acting calls.tidy
+change_is (Change.Flush i) = keeping calls.flush i
+change_is (Change.Heal i) = keeping calls.heal i
 
-unfoldable pub query_in : List ℕ → Query → Request
-query_in s (Query.Get p) = asking (calls.get (part s p))
-query_in s (Query.Next p q) = asking (calls.next (part s p) (part s q))
+abbrev pub query_is : Query → Request
+query_is (Query.Get p) = asking (calls.get p.now)
+query_is (Query.Next p q) = asking (calls.next p.now q.now)
 
-unfoldable pub request_in : List ℕ → Piece → Request
-request_in s (Piece.Change c) = change_in s c
-request_in s (Piece.Query q) = query_in s q
+abbrev pub request_is : Piece → Request
+request_is (Piece.Change c) = change_is c
+request_is (Piece.Query q) = query_is q
 
--- its places lie in n bytes
-unfoldable pub ChangeWithin : ℕ → Change → Type 0
-ChangeWithin n (Change.Put p v) = Within 0 n p × Within 0 n v
-ChangeWithin n (Change.Drop p) = Within 0 n p
-ChangeWithin n (Change.Clear p) = Within 0 n p
-ChangeWithin n (Change.Move p q) = Within 0 n p × Within 0 n q
-ChangeWithin n Change.Settle = Unit {0}
-ChangeWithin n Change.Tidy = Unit {0}
-ChangeWithin n (Change.Flush i) = Unit {0}
-ChangeWithin n (Change.Heal i) = Unit {0}
+abbrev pub requests_left : Pieces → List Request
+requests_left it = requests_of it.rest.now
 
-unfoldable pub QueryWithin : ℕ → Query → Type 0
-QueryWithin n (Query.Get p) = Within 0 n p
-QueryWithin n (Query.Next p q) = Within 0 n p × Within 0 n q
+-- a rest that is the number of a node, or is not
+abbrev pub NotNode : List ℕ → Type 0
+NotNode r = length r ≡ 2 → ⊥
 
-unfoldable pub PieceWithin : ℕ → Piece → Type 0
-PieceWithin n (Piece.Change c) = ChangeWithin n c
-PieceWithin n (Piece.Query q) = QueryWithin n q
+abbrev pub IsNode : List ℕ → ℕ → Type 0
+IsNode r i = (length r ≡ 2) × (i ≡ u16 r 0)
 
--- the piece, if there is one, is what the definition reads
-unfoldable pub PieceIs : List ℕ → Option Request → std.Option Piece → Type 0
-PieceIs s o None = o ≡ none
-PieceIs s o (Some p) = (o ≡ some (request_in s p)) × PieceWithin (length s) p
+-- a rest that is no request of a kind, or is one
+abbrev pub NotOf : ℕ → List ℕ → Type 0
+NotOf kind r = request_of kind r ≡ none
 
--- the kinds without a path
-unfoldable pub upkeep_of : ℕ → List ℕ → Option Request
-upkeep_of kind r =
-    cond (eqb kind 0x0040) (plain_of calls.settle r)
-    (cond (eqb kind 0x0041) (plain_of calls.tidy r)
-    (cond (eqb kind 0x0042) (node_of calls.flush r)
-    (cond (eqb kind 0x0043) (node_of calls.heal r) none)))
+abbrev pub IsOf : ℕ → List ℕ → Piece → Type 0
+IsOf kind r p = request_of kind r ≡ some (request_is p)
 
--- the piece at a place, and behind it the later ones
-pub record ReadsPiece (s : List ℕ) (at : ℕ) (r : Reading) : Type 0 where
-  pub first : first_request (drop at s) ≡ some (request_in s r.piece)
-  pub within : PieceWithin (length s) r.piece
-  pub later : behind (drop at s) ≡ drop r.end s
-  pub moves : at < r.end
-  pub high : r.end ≤ length s
+-- bytes that no piece begins; a piece and the bytes behind it
+pub record Unread (s : List ℕ) : Type 0 where
+  pub first : first_request s ≡ none
+  pub lists : requests_of s ≡ []
 
-unfoldable pub Reads : List ℕ → ℕ → std.Option Reading → Type 0
-Reads s at None = first_request (drop at s) ≡ none
-Reads s at (Some r) = ReadsPiece s at r
+pub record Leads (s : List ℕ) (p : Piece) (r : List ℕ) : Type 0 where
+  pub first : first_request s ≡ some (request_is p)
+  pub later : behind s ≡ r
+  pub lists : requests_of s ≡ request_is p ∷ requests_of r
+  pub shorter : length r + 4 ≤ length s
 
 unfoldable pub query_most : Query → ℕ
 query_most (Query.Get p) = 4 + value_limit

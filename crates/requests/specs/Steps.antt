@@ -1,38 +1,27 @@
 -- The reader of a piece and the writer of an answer: one law for each way out of the code.
-use Rattle.std.specs.Prelude.{ℕ, ◌+◌, ◌-◌, ◌<◌, ◌≤◌, ◌≡◌, refl, List, ◌++◌, Bool, true, false, ◌&&◌, cond, length, take, drop, get_or, leb, eqb, Some, None, Result, Ok, Err}
-use Rattle.std.specs.Prelude as std
-use Rattle.image.specs.Prelude.{sym, ap, ap₂, subst, ◌∙◌, Option, none, some, arith, length-drop, length-append, drop-drop, get_or-drop, length-take-le, le-leb, lt-leb, eq-eqb, ne_eqb}
-use Rattle.image.specs.Path.{value_limit, path_limit}
+use Rattle.std.specs.Prelude.{ℕ, ◌+◌, ◌-◌, ◌<◌, ◌≤◌, ◌≡◌, refl, List, ◌∷◌, ◌++◌, Bool, true, false, ◌&&◌, cond, length, take, drop, leb, Result, Ok, Err}
+use Rattle.image.specs.Prelude.{sym, ap, ap₂, ◌∙◌, none, some, arith, length-drop, length-append, drop-drop, length-take-le, le-leb, lt-leb, eq-eqb, ne_eqb}
+use Rattle.image.specs.Path.{path_limit}
 use Rattle.image.specs.Bytes.{u16, u16_bytes}
 use Rattle.image.specs.Entry.{pair, keyed}
 use Rattle.image.specs.Calls as calls
 use Rattle.image.specs.Calls.{Act, Upkeep}
 use Rattle.image.specs.Answers.{refusal_number, outcome_number, outcome_answer, found_answer}
-use Rattle.image.specs.Batch.{Request, acting, keeping, asking, two_of, plain_of, node_of, request_of, first_request, behind, answer_bytes}
+use Rattle.image.specs.Batch.{Request, acting, keeping, asking, two_of, node_of, request_of, first_request, behind, requests_of, answer_bytes}
 use Rattle.image.specs.declared.Refusal.{Refusal}
 use Rattle.octets.specs.Put.{put, put-put, put-size}
-use Rattle.node.specs.declared.Place.{Place}
-use Rattle.node.specs.declared.Split.{Split}
-use Rattle.node.specs.Cut.{cut, cut-length, cut-u16}
-use Rattle.node.specs.Places.{Within, within, SplitAs, split-at-is, split-bad-is}
+use Rattle.node.specs.Lent.{Unkeyed, Keyed, front-u16}
 use Rattle.query.specs.Asked.{found_length}
-use Rattle.requests.specs.declared.Change.{Change}
-use Rattle.requests.specs.declared.Query.{Query}
 use Rattle.requests.specs.declared.Piece.{Piece}
-use Rattle.requests.specs.Pieces.{change_in, query_in, request_in, ChangeWithin, QueryWithin, PieceWithin, PieceIs, upkeep_of, Reads, head_bytes, query_most}
+use Rattle.requests.specs.Pieces.{request_is, NotNode, IsNode, NotOf, IsOf, Unread, Leads, head_bytes}
+use Rattle.requests.specs.Requests.{requests-end, requests-more}
 
--- A REST OF A KIND
-cond-none : (b : Bool) {x y : Option Request} → x ≡ none → y ≡ none → cond b x y ≡ none
-cond-none true e f = e
-cond-none false e f = f
+-- A PIECE
+unread : (s : List ℕ) → first_request s ≡ none → Unread s
+unread s e = record { first = e; lists = requests-end s e }
 
-plain-some : (a : Act) (r : List ℕ) → length r ≡ 0 → plain_of a r ≡ some (acting a)
-unfolding plain_of
-plain-some a r e = rw (eq-eqb (length r) 0 e)
-
-plain-none : (a : Act) (r : List ℕ) → (length r ≡ 0 → ⊥) → plain_of a r ≡ none
-unfolding plain_of
-plain-none a r e = rw (ne_eqb (length r) 0 e)
+pub unread-short : (s : List ℕ) → length s < 4 → Unread s
+unread-short s h = unread s (unfold first_request in rw (lt-leb 4 (length s) h) refl)
 
 node-some : (u : Upkeep) (r : List ℕ) → length r ≡ 2 → node_of u r ≡ some (keeping u (u16 r 0))
 unfolding node_of
@@ -64,179 +53,112 @@ two-some make r p q e = go (leb 2 (length r) && leb (u16 r 0) (length r - 2)) e
         ap₂ (λ x y. some (make x y)) a b
     go false f = absurd (let z : ◌≡◌ {A = ℕ} 0 1 = cc in omega arith)
 
--- SETTLE, TIDY, FLUSH, HEAL
-upkeep-low : (kind : ℕ) (r : List ℕ) → kind < 64 → upkeep_of kind r ≡ none
-unfolding upkeep_of
-upkeep-low kind r h =
-    rw (ne_eqb kind 0x40 (λ e. omega arith), ne_eqb kind 0x41 (λ e. omega arith), ne_eqb kind 0x42 (λ e. omega arith), ne_eqb kind 0x43 (λ e. omega arith))
+-- the kinds
+module _ (r : List ℕ) where
+  pub put-none : Unkeyed r → NotOf 32 r
+  unfolding request_of
+  put-none h = two_none _ r (h pair)
 
-module _ (s : List ℕ) (kind start stop : ℕ) (low : start ≤ stop) (high : stop ≤ length s) where
-  rest-length : length (cut s start stop) ≡ stop - start
-  rest-length = cut-length s start stop low high
+  pub put-some : (p v : List ℕ) → Keyed r p v → request_of 32 r ≡ some (acting (calls.put p v))
+  unfolding request_of
+  put-some p v h = two-some _ r p v (h pair)
 
-  pub settle-at : stop - start ≡ 0 → kind ≡ 64 → PieceIs s (upkeep_of kind (cut s start stop)) (Some (Piece.Change Change.Settle))
-  unfolding upkeep_of request_in change_in PieceIs PieceWithin ChangeWithin
-  settle-at h e = (rw e (plain-some calls.settle (cut s start stop) (rest-length ∙ h)), tt)
+  pub move-none : Unkeyed r → NotOf 36 r
+  unfolding request_of
+  move-none h = two_none _ r (h pair)
 
-  pub tidy-at : stop - start ≡ 0 → kind ≡ 65 → PieceIs s (upkeep_of kind (cut s start stop)) (Some (Piece.Change Change.Tidy))
-  unfolding upkeep_of request_in change_in PieceIs PieceWithin ChangeWithin
-  tidy-at h e = (rw e (plain-some calls.tidy (cut s start stop) (rest-length ∙ h)), tt)
+  pub move-some : (p q : List ℕ) → Keyed r p q → request_of 36 r ≡ some (acting (calls.move p q))
+  unfolding request_of
+  move-some p q h = two-some _ r p q (h pair)
 
-  pub none-empty : stop - start ≡ 0 → (kind ≡ 64 → ⊥) → (kind ≡ 65 → ⊥) → PieceIs s (upkeep_of kind (cut s start stop)) None
-  unfolding upkeep_of PieceIs
-  none-empty h a b =
-      let n : length (cut s start stop) ≡ 2 → ⊥ = λ e. let l = rest-length in omega arith in
-      rw (ne_eqb kind 64 a, ne_eqb kind 65 b) (cond-none (eqb kind 66) (node-none calls.flush (cut s start stop) n) (cond-none (eqb kind 67) (node-none calls.heal (cut s start stop) n) refl))
+  pub next-none : Unkeyed r → NotOf 49 r
+  unfolding request_of
+  next-none h = two_none _ r (h pair)
 
-  pub none-odd : (stop - start ≡ 0 → ⊥) → (stop - start ≡ 2 → ⊥) → PieceIs s (upkeep_of kind (cut s start stop)) None
-  unfolding upkeep_of PieceIs
-  none-odd h k =
-      let l = rest-length in
-      let m : length (cut s start stop) ≡ 0 → ⊥ = λ e. h (omega arith) in
-      let n : length (cut s start stop) ≡ 2 → ⊥ = λ e. k (omega arith) in
-      cond-none (eqb kind 64) (plain-none calls.settle (cut s start stop) m) (cond-none (eqb kind 65) (plain-none calls.tidy (cut s start stop) m) (cond-none (eqb kind 66) (node-none calls.flush (cut s start stop) n) (cond-none (eqb kind 67) (node-none calls.heal (cut s start stop) n) refl)))
+  pub next-some : (p q : List ℕ) → Keyed r p q → request_of 49 r ≡ some (asking (calls.next p q))
+  unfolding request_of
+  next-some p q h = two-some _ r p q (h pair)
 
-  module _ (two : stop - start ≡ 2) (i : ℕ) (i-is : i ≡ u16 s start) where
-    number_is : u16 (cut s start stop) 0 ≡ i
-    number_is = cut-u16 s start stop 0 (omega arith) ∙ ap (λ k. u16 s k) (omega arith) ∙ sym i-is
+  pub flush-none : NotNode r → NotOf 66 r
+  unfolding request_of
+  flush-none h = node-none calls.flush r h
 
-    pub flush-at : kind ≡ 66 → PieceIs s (upkeep_of kind (cut s start stop)) (Some (Piece.Change (Change.Flush i)))
-    unfolding upkeep_of request_in change_in PieceIs PieceWithin ChangeWithin
-    flush-at e = (rw e (node-some calls.flush (cut s start stop) (rest-length ∙ two) ∙ ap (λ k. some (keeping calls.flush k)) number_is), tt)
+  pub flush-some : (i : ℕ) → IsNode r i → request_of 66 r ≡ some (keeping calls.flush i)
+  unfolding request_of
+  flush-some i h = node-some calls.flush r h.0 ∙ ap (λ k. some (keeping calls.flush k)) (sym h.1)
 
-    pub heal-at : kind ≡ 67 → PieceIs s (upkeep_of kind (cut s start stop)) (Some (Piece.Change (Change.Heal i)))
-    unfolding upkeep_of request_in change_in PieceIs PieceWithin ChangeWithin
-    heal-at e = (rw e (node-some calls.heal (cut s start stop) (rest-length ∙ two) ∙ ap (λ k. some (keeping calls.heal k)) number_is), tt)
+  pub heal-none : NotNode r → NotOf 67 r
+  unfolding request_of
+  heal-none h = node-none calls.heal r h
 
-    pub none-two : (kind ≡ 66 → ⊥) → (kind ≡ 67 → ⊥) → PieceIs s (upkeep_of kind (cut s start stop)) None
-    unfolding upkeep_of PieceIs
-    none-two a b =
-        let m : length (cut s start stop) ≡ 0 → ⊥ = λ e. let l = rest-length in omega arith in
-        let z : cond (eqb kind 66) (node_of calls.flush (cut s start stop)) (cond (eqb kind 67) (node_of calls.heal (cut s start stop)) none) ≡ none = rw (ne_eqb kind 66 a, ne_eqb kind 67 b) in
-        cond-none (eqb kind 64) (plain-none calls.settle (cut s start stop) m) (cond-none (eqb kind 65) (plain-none calls.tidy (cut s start stop) m) z)
+  pub heal-some : (i : ℕ) → IsNode r i → request_of 67 r ≡ some (keeping calls.heal i)
+  unfolding request_of
+  heal-some i h = node-some calls.heal r h.0 ∙ ap (λ k. some (keeping calls.heal k)) (sym h.1)
 
-  -- ANY REQUEST
-  whole : Within 0 (length s) (record { start = start; stop = stop })
-  whole = within 0 (length s) start stop (omega arith) low high
+  pub kind-other : (kind : ℕ) → (kind ≡ 32 → ⊥) → (kind ≡ 33 → ⊥) → (kind ≡ 34 → ⊥) → (kind ≡ 36 → ⊥) → (kind ≡ 48 → ⊥) → (kind ≡ 49 → ⊥)
+      → (kind ≡ 64 → ⊥) → (kind ≡ 65 → ⊥) → (kind ≡ 66 → ⊥) → (kind ≡ 67 → ⊥) → NotOf kind r
+  unfolding request_of
+  kind-other kind a b c d e f g h i j =
+      rw (
+        ne_eqb kind 32 a,
+        ne_eqb kind 33 b,
+        ne_eqb kind 34 c,
+        ne_eqb kind 36 d,
+        ne_eqb kind 48 e,
+        ne_eqb kind 49 f,
+        ne_eqb kind 64 g,
+        ne_eqb kind 65 h,
+        ne_eqb kind 66 i,
+        ne_eqb kind 67 j,
+      )
 
-  pub drop_at : kind ≡ 33 → PieceIs s (request_of kind (cut s start stop)) (Some (Piece.Change (Change.Drop (record { start = start; stop = stop }))))
-  unfolding request_of request_in change_in PieceIs PieceWithin ChangeWithin
-  drop_at e = (rw e refl, whole)
+-- Bytes parted behind the two numbers n and k in front.
+module _ (s front body : List ℕ) (four : 4 ≤ length s) (f : front ≡ take 4 s) (b : body ≡ drop 4 s) (n k : ℕ) (e : n ≡ u16 front 0) (g : k ≡ u16 front 2) where
+  size-is : n ≡ u16 s 0
+  size-is = e ∙ ap (λ x. u16 x 0) f ∙ front-u16 s 4 0 (omega arith)
 
-  pub clear_at : kind ≡ 34 → PieceIs s (request_of kind (cut s start stop)) (Some (Piece.Change (Change.Clear (record { start = start; stop = stop }))))
-  unfolding request_of request_in change_in PieceIs PieceWithin ChangeWithin
-  clear_at e = (rw e refl, whole)
+  kind-is : k ≡ u16 s 2
+  kind-is = g ∙ ap (λ x. u16 x 2) f ∙ front-u16 s 4 2 (omega arith)
 
-  pub get_at : kind ≡ 48 → PieceIs s (request_of kind (cut s start stop)) (Some (Piece.Query (Query.Get (record { start = start; stop = stop }))))
-  unfolding request_of request_in query_in PieceIs PieceWithin QueryWithin
-  get_at e = (rw e refl, whole)
+  body-length : length body + 4 ≡ length s
+  body-length = let d = length-drop 4 s in let l = ap length b in omega arith
 
-  pub upkeep-at : 64 ≤ kind → (r : std.Option Piece) → PieceIs s (upkeep_of kind (cut s start stop)) r → PieceIs s (request_of kind (cut s start stop)) r
-  upkeep-at h r p = subst (λ o. PieceIs s o r) (sym same-kinds) p
+  pub unread-over : length body < n → Unread s
+  unread-over h = unread s none-first
     where
-      same-kinds : request_of kind (cut s start stop) ≡ upkeep_of kind (cut s start stop)
-      same-kinds =
-          unfold request_of upkeep_of in
-          rw (
-            ne_eqb kind 32 (λ e. omega arith),
-            ne_eqb kind 33 (λ e. omega arith),
-            ne_eqb kind 34 (λ e. omega arith),
-            ne_eqb kind 36 (λ e. omega arith),
-            ne_eqb kind 48 (λ e. omega arith),
-            ne_eqb kind 49 (λ e. omega arith),
-          ) refl
-
-  module _ (not-drop : kind ≡ 33 → ⊥) (not-clear : kind ≡ 34 → ⊥) (not-get : kind ≡ 48 → ⊥) (small : kind < 64) (split : Split) (split-is : SplitAs s start stop split) where
-    pub no-split : split ≡ Split.Bad → PieceIs s (request_of kind (cut s start stop)) None
-    unfolding PieceIs
-    no-split e = request-none
-      where
-        bad : (make : List ℕ → List ℕ → Request) → two_of make (cut s start stop) ≡ none
-        bad make = two_none make (cut s start stop) (split-bad-is s start stop split split-is e pair)
-
-        request-none : request_of kind (cut s start stop) ≡ none
-        request-none =
-            unfold request_of in
-            rw (ne_eqb kind 33 not-drop, ne_eqb kind 34 not-clear, ne_eqb kind 48 not-get, bad (λ p v. acting (calls.put p v)), bad (λ p q. acting (calls.move p q)), bad (λ p q. asking (calls.next p q)))
-            (cond-none (eqb kind 32) refl (cond-none (eqb kind 36) refl (cond-none (eqb kind 49) refl (unfold upkeep_of in upkeep-low kind (cut s start stop) small))))
-
-    module _ (m : ℕ) (e : split ≡ Split.At m) where
-      places : (start + 2 ≤ m) × (m ≤ stop) × (keyed pair (cut s start stop) ≡ some (pair (cut s (start + 2) m) (cut s m stop)))
-      places = let p = split-at-is s start stop split m split-is e in (p.0, p.1, p.2 pair)
-
-      first-within : Within 0 (length s) (record { start = start + 2; stop = m })
-      first-within = within 0 (length s) (start + 2) m (omega arith) places.0 (let k = places.1 in omega arith)
-
-      second-within : Within 0 (length s) (record { start = m; stop = stop })
-      second-within = within 0 (length s) m stop (omega arith) places.1 high
-
-      pub put-at : kind ≡ 32 → PieceIs s (request_of kind (cut s start stop)) (Some (Piece.Change (Change.Put (record { start = start + 2; stop = m }) (record { start = m; stop = stop }))))
-      unfolding request_of request_in change_in PieceIs PieceWithin ChangeWithin
-      put-at q = (rw q (two-some _ _ _ _ places.2), (first-within, second-within))
-
-      pub move_at : kind ≡ 36 → PieceIs s (request_of kind (cut s start stop)) (Some (Piece.Change (Change.Move (record { start = start + 2; stop = m }) (record { start = m; stop = stop }))))
-      unfolding request_of request_in change_in PieceIs PieceWithin ChangeWithin
-      move_at q = (rw q (two-some _ _ _ _ places.2), (first-within, second-within))
-
-      pub next-at : kind ≡ 49 → PieceIs s (request_of kind (cut s start stop)) (Some (Piece.Query (Query.Next (record { start = start + 2; stop = m }) (record { start = m; stop = stop }))))
-      unfolding request_of request_in query_in PieceIs PieceWithin QueryWithin
-      next-at q = (rw q (two-some _ _ _ _ places.2), (first-within, second-within))
-
-    pub none-at : (kind ≡ 32 → ⊥) → (kind ≡ 36 → ⊥) → (kind ≡ 49 → ⊥) → PieceIs s (request_of kind (cut s start stop)) None
-    unfolding request_of PieceIs
-    none-at a b c =
-        rw (ne_eqb kind 32 a, ne_eqb kind 33 not-drop, ne_eqb kind 34 not-clear, ne_eqb kind 36 b, ne_eqb kind 48 not-get, ne_eqb kind 49 c)
-        (unfold upkeep_of in upkeep-low kind (cut s start stop) small)
-
--- A PIECE
-u16-drop : (s : List ℕ) (at k : ℕ) → u16 (drop at s) k ≡ u16 s (at + k)
-unfolding u16
-u16-drop s at k =
-    let a = get_or-drop at s k 0 in
-    let b = get_or-drop at s (k + 1) 0 in
-    let c : get_or s (at + (k + 1)) 0 ≡ get_or s (at + k + 1) 0 = ap (λ i. get_or s i 0) (omega arith) in
-    omega arith
-
-module _ (s : List ℕ) (at : ℕ) (low : at ≤ length s) where
-  pub too_short : length s - at < 4 → Reads s at None
-  unfolding first_request Reads
-  too_short h = let l = length-drop at s in rw (lt-leb 4 (length (drop at s)) (omega arith)) refl
-
-  module _ (room : 4 ≤ length s - at) (len kind : ℕ) (len_is : len ≡ u16 s at) (kind_is : kind ≡ u16 s (at + 2)) where
-    head-length : u16 (drop at s) 0 ≡ len
-    head-length = u16-drop s at 0 ∙ ap (λ k. u16 s k) (omega arith) ∙ sym len_is
-
-    left-length : length (drop at s) ≡ length s - at
-    left-length = length-drop at s
-
-    pub cut_off : length s - (at + 4) < len → Reads s at None
-    unfolding first_request Reads
-    cut_off h =
-        let l = left-length in
-        rw (le-leb 4 (length (drop at s)) (omega arith), head-length, lt-leb len (length (drop at s) - 4) (omega arith)) refl
-
-    module _ (h : len ≤ length s - (at + 4)) where
-      rest-is : take len (drop 4 (drop at s)) ≡ cut s (at + 4) (at + 4 + len)
-      rest-is = ap₂ (λ i l. take i l) (let z : len ≡ at + 4 + len - (at + 4) = omega arith in z) (drop-drop 4 at s)
-
-      first-is : first_request (drop at s) ≡ request_of kind (cut s (at + 4) (at + 4 + len))
-      first-is =
+      none-first : first_request s ≡ none
+      none-first =
           unfold first_request in
-          let l = left-length in
-          let k : u16 (drop at s) 2 ≡ kind = u16-drop s at 2 ∙ sym kind_is in
-          rw (head-length, le-leb 4 (length (drop at s)) (omega arith), le-leb len (length (drop at s) - 4) (omega arith))
-          (ap₂ (λ i x. request_of i x) k rest-is)
+          let l = body-length in
+          let c = size-is in
+          rw (le-leb 4 (length s) four, lt-leb (u16 s 0) (length s - 4) (omega arith)) refl
 
-      behind-is : behind (drop at s) ≡ drop (at + 4 + len) s
-      behind-is = unfold behind in let z : at + (4 + len) ≡ at + 4 + len = omega arith in rw head-length (drop-drop (4 + len) at s ∙ ap (λ (k : ℕ). drop k s) z)
+  module _ (h : n ≤ length body) (rest later : List ℕ) (p : rest ≡ take n body) (q : later ≡ drop n body) where
+    first-here : first_request s ≡ request_of k rest
+    first-here =
+        unfold first_request in
+        let l = body-length in
+        let c = size-is in
+        rw (le-leb 4 (length s) four, le-leb (u16 s 0) (length s - 4) (omega arith))
+        (ap₂ (λ x y. request_of x y) (sym kind-is) (ap₂ (λ i y. take i y) (sym size-is) (sym b) ∙ sym p))
 
-      pub reads-none : PieceIs s (request_of kind (cut s (at + 4) (at + 4 + len))) None → Reads s at None
-      unfolding PieceIs Reads
-      reads-none p = first-is ∙ p
+    behind-here : behind s ≡ later
+    behind-here = unfold behind in sym (drop-drop (u16 s 0) 4 s) ∙ ap₂ (λ i y. drop i y) (sym size-is) (sym b) ∙ sym q
 
-      pub reads-on : (r : Piece) → PieceIs s (request_of kind (cut s (at + 4) (at + 4 + len))) (Some r) → Reads s at (Some (record { piece = r; end = at + 4 + len }))
-      unfolding PieceIs Reads
-      reads-on r p = record { first = first-is ∙ p.0; within = p.1; later = behind-is; moves = omega arith; high = omega arith }
+    pub unread-kind : NotOf k rest → Unread s
+    unread-kind o = unread s (first-here ∙ o)
+
+    pub leads : (x : Piece) → IsOf k rest x → Leads s x later
+    leads x o =
+        let l = body-length in
+        let m = length-drop n body in
+        let z = ap length q in
+        record {
+          first = first-here ∙ o;
+          later = behind-here;
+          lists = requests-more s (request_is x) (first-here ∙ o) ∙ ap (λ y. request_is x ∷ requests_of y) behind-here;
+          shorter = omega arith;
+        }
 
 -- AN ANSWER
 pub head-written : (page page₁ page₂ : List ℕ) (at len number : ℕ) → at + 4 ≤ length page → page₁ ≡ put page at (u16_bytes len) → page₂ ≡ put page₁ (at + 2) (u16_bytes number)
@@ -274,14 +196,6 @@ found-written page page₁ page₂ buffer at n found f h k e g = (
 pub size-found : (found : Result ℕ Refusal) (n : ℕ) → found ≡ Ok n → found_length found ≡ n
 unfolding found_length
 size-found found n e = rw e refl
-
-pub most_get : (q : Query) (p : Place) → q ≡ Query.Get p → 4 + value_limit ≡ query_most q
-unfolding query_most
-most_get q p e = rw e refl
-
-pub most_next : (q : Query) (p p' : Place) → q ≡ Query.Next p p' → 4 + path_limit ≡ query_most q
-unfolding query_most
-most_next q p p' e = rw e refl
 
 -- how far the bytes of an answer reach
 pub found-room : (found : Result ℕ Refusal) (n at long held : ℕ) → found ≡ Ok n → at + 4 + found_length found ≤ long → found_length found ≤ held → found_length found ≤ path_limit

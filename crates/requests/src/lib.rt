@@ -1,30 +1,29 @@
-// The pieces of a batch: the request at a place of its bytes, told as places in them; an answer written as bytes; the number of an outcome.
-// Relies on node (places, a rest of two strings), octets, and image for the definitions.
+// The pieces of a batch: an iterator over its requests, which lend the bytes that stand in them; an answer written as bytes; the number of an outcome.
+// Relies on node (a rest of two strings), octets, and image for the definitions.
 
 #![tactic(auto)]
 
-ghost use Rattle.std.specs.Prelude.{◌≡◌, ◌+◌, ◌≤◌, length};
+ghost use Rattle.std.specs.Prelude.{◌≡◌, ◌+◌, ◌≤◌, length, MatchOption};
 ghost use Rattle.image.specs.Path.{path_limit};
-ghost use Rattle.image.specs.Batch.{request_of, answer_bytes};
+ghost use Rattle.image.specs.Batch.{answer_bytes};
 ghost use Rattle.image.specs.Answers.{refusal_limit, outcome_number, outcome_answer, found_answer};
 ghost use Rattle.octets.specs.Put.{put};
-ghost use Rattle.node.specs.Cut.{cut};
 ghost use Rattle.query.specs.Asked.{found_length};
-ghost use Rattle.requests.specs.Pieces.{PieceIs, Reads, upkeep_of, query_most, head_bytes};
+ghost use Rattle.requests.specs.Pieces.{NotNode, IsNode, NotOf, IsOf, Unread, Leads, query_most, head_bytes, request_is, requests_left};
 
 use image::Refusal;
-use node::{Place, Split};
+use node::entries::split_keyed;
 
 // The length of an answer's head: two bytes for how many follow it, two for its number. The answer of a change is its head alone.
 pub const ANSWER_HEAD: usize = 4;
 
 // A request that changes the store, or keeps it up.
 #[derive(Clone, Copy)]
-pub enum Change {
-    Put(Place, Place),
-    Drop(Place),
-    Clear(Place),
-    Move(Place, Place),
+pub enum Change<'a> {
+    Put(&'a [u8], &'a [u8]),
+    Drop(&'a [u8]),
+    Clear(&'a [u8]),
+    Move(&'a [u8], &'a [u8]),
     Settle,
     Tidy,
     Flush(usize),
@@ -33,113 +32,94 @@ pub enum Change {
 
 // A request that reads.
 #[derive(Clone, Copy)]
-pub enum Query {
-    Get(Place),
-    Next(Place, Place),
+pub enum Query<'a> {
+    Get(&'a [u8]),
+    Next(&'a [u8], &'a [u8]),
 }
 
 // A piece that reads.
 #[derive(Clone, Copy)]
-pub enum Piece {
-    Change(Change),
-    Query(Query),
+pub enum Piece<'a> {
+    Change(Change<'a>),
+    Query(Query<'a>),
 }
 
-// A piece that reads, and where the next one begins.
+// The bytes of the pieces that are still to be read.
 #[derive(Clone, Copy)]
-pub struct Reading {
-    pub piece: Piece,
-    pub end: usize,
+pub struct Pieces<'a> {
+    pub rest: &'a [u8],
 }
 
-// settle and tidy, with an empty rest; flush and heal, with the number of a node.
-fn upkeep_at(s: &[u8], kind: usize, start: usize, stop: usize) -> Option<Piece>
-    requires { (start ≤ stop) × (stop ≤ length s.now) }
-    ensures { PieceIs s.now (upkeep_of kind (cut s.now start stop)) result }
+// The number of a node, where it fills the rest.
+fn read_node(rest: &[u8]) -> Option<usize>
+    ensures { MatchOption result (NotNode rest.now) (λ i. IsNode rest.now i) }
 {
-    if stop - start == 0 {
-        if kind == image::SETTLE {
-            return Some(Piece::Change(Change::Settle));
+    if rest.len() == 2 {
+        Some(octets::u16_at(rest, 0))
+    } else {
+        None
+    }
+}
+
+// The request of a kind with this rest.
+#[tactic(auto, unfolding(image::specs::Batch::request_of, image::specs::Batch::plain_of))]
+fn request_of(kind: usize, rest: &[u8]) -> Option<Piece>
+    ensures { MatchOption result (NotOf kind rest.now) (λ p. IsOf kind rest.now p) }
+{
+    match kind {
+        image::PUT => {
+            let (path, value) = split_keyed(rest)?;
+            Some(Piece::Change(Change::Put(path, value)))
         }
-        if kind == image::TIDY {
-            return Some(Piece::Change(Change::Tidy));
+        image::DROP => Some(Piece::Change(Change::Drop(rest))),
+        image::CLEAR => Some(Piece::Change(Change::Clear(rest))),
+        image::MOVE => {
+            let (from, to) = split_keyed(rest)?;
+            Some(Piece::Change(Change::Move(from, to)))
         }
-        return None;
+        image::GET => Some(Piece::Query(Query::Get(rest))),
+        image::NEXT => {
+            let (path, after) = split_keyed(rest)?;
+            Some(Piece::Query(Query::Next(path, after)))
+        }
+        image::SETTLE => rest.is_empty().then_some(Piece::Change(Change::Settle)),
+        image::TIDY => rest.is_empty().then_some(Piece::Change(Change::Tidy)),
+        image::FLUSH => Some(Piece::Change(Change::Flush(read_node(rest)?))),
+        image::HEAL => Some(Piece::Change(Change::Heal(read_node(rest)?))),
+        _ => None,
     }
-    if stop - start != 2 {
-        return None;
-    }
-    let number = octets::u16_at(s, start);
-    if kind == image::FLUSH {
-        return Some(Piece::Change(Change::Flush(number)));
-    }
-    if kind == image::HEAL {
-        return Some(Piece::Change(Change::Heal(number)));
-    }
-    None
 }
 
-// The request of a kind whose rest is the part from start to stop.
-fn request_at(s: &[u8], kind: usize, start: usize, stop: usize) -> Option<Piece>
-    requires { (start ≤ stop) × (stop ≤ length s.now) }
-    ensures { PieceIs s.now (request_of kind (cut s.now start stop)) result }
+// The piece that bytes begin with, and the bytes behind it.
+pub fn read_piece(calls: &[u8]) -> Option<(Piece, &[u8])>
+    ensures { MatchOption result (Unread calls.now) (λ p. Leads calls.now p.0 p.1.now) }
 {
-    let whole = Place { start, stop };
-    if kind == image::DROP {
-        return Some(Piece::Change(Change::Drop(whole)));
-    }
-    if kind == image::CLEAR {
-        return Some(Piece::Change(Change::Clear(whole)));
-    }
-    if kind == image::GET {
-        return Some(Piece::Query(Query::Get(whole)));
-    }
-    if image::SETTLE <= kind {
-        return upkeep_at(s, kind, start, stop);
-    }
-    let Split::At(m) = node::parted(s, start, stop) else {
-        return None;
-    };
-    let first = Place {
-        start: start + 2,
-        stop: m,
-    };
-    let second = Place { start: m, stop };
-    if kind == image::PUT {
-        return Some(Piece::Change(Change::Put(first, second)));
-    }
-    if kind == image::MOVE {
-        return Some(Piece::Change(Change::Move(first, second)));
-    }
-    if kind == image::NEXT {
-        return Some(Piece::Query(Query::Next(first, second)));
-    }
-    None
+    let (head, body) = calls.split_at_checked(4)?;
+    let (rest, behind) = body.split_at_checked(octets::u16_at(head, 0))?;
+    let piece = request_of(octets::u16_at(head, 2), rest)?;
+    Some((piece, behind))
 }
 
-// The piece at a place, if one reads there.
-pub fn read_piece(s: &[u8], at: usize) -> Option<Reading>
-    requires { at ≤ length s.now }
-    ensures { Reads s.now at result }
-{
-    if s.len() - at < 4 {
-        return None;
+impl<'a> Iterator for Pieces<'a> {
+    ghost use Rattle.std.specs.Iterator.{YieldsFirstBy, item_count};
+
+    type Item = Piece<'a>;
+
+    ghost next_gives = { YieldsFirstBy request_is requests_left };
+
+    ghost remaining = { item_count requests_left };
+
+    fn next(&mut self) -> Option<Piece<'a>> {
+        let (piece, behind) = read_piece(self.rest)?;
+        self.rest = behind;
+        Some(piece)
     }
-    let len = octets::u16_at(s, at);
-    let kind = octets::u16_at(s, at + 2);
-    let start = at + 4;
-    if s.len() - start < len {
-        return None;
-    }
-    let end = start + len;
-    let piece = request_at(s, kind, start, end)?;
-    Some(Reading { piece, end })
 }
 
 // How many bytes the answer of a query takes at most.
 #[tactic(auto, unfolding(crate::specs::Pieces::query_most))]
 pub fn most_bytes(query: Query) -> usize
-    ensures { result ≡ query_most query }
+    ensures { result ≡ query_most query.entry }
 {
     match query {
         Query::Get(_) => ANSWER_HEAD + image::VALUE_LIMIT,

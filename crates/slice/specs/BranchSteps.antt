@@ -1,77 +1,99 @@
--- Step lemmas of an interior node's part: the entries of children put into a page one after the other. Relies on Point, on octets' Put and on laws'
--- Encode.
-use Rattle.std.specs.Prelude.{ℕ, zero, suc, ◌+◌, ◌-◌, ◌<◌, ◌≤◌, ◌≡◌, refl, List, [], ◌∷◌, ◌++◌, length, drop}
-use Rattle.image.specs.Prelude.{sym, ap, ap₂, ◌∙◌, append-nil, arith, length-append}
+-- Step lemmas of an interior node's part: the entries of its children, one after the other. Relies on Point and Right.
+use Rattle.std.specs.Prelude.{ℕ, ◌+◌, ◌≤◌, ◌≡◌, List, [], ◌∷◌, ◌++◌, true, false, length, drop}
+use Rattle.image.specs.Prelude.{sym, ap, ◌∙◌, arith, length-append}
+use Rattle.image.specs.Bytes.{before}
 use Rattle.image.specs.Entry as defined
-use Rattle.image.specs.Image.{Branch}
-use Rattle.octets.specs.Put.{put, put-put}
-use Rattle.laws.specs.Encode.{bytes_of, child-size}
-use Rattle.node.specs.Cut.{cut}
-use Rattle.node.specs.Places.{part}
-use Rattle.node.specs.declared.Place.{Place}
+use Rattle.image.specs.Image as image
+use Rattle.laws.specs.Encode.{bytes_of}
+use Rattle.laws.specs.Reading.Relative.{branch_high}
 use Rattle.node.specs.Search.Own.{branch}
-use Rattle.slice.specs.declared.Cut.{Cut}
-use Rattle.slice.specs.Point.{point_in, count_of, branch_line, cut_line, left_line}
+use Rattle.node.specs.declared.branches.Branch.{Branch}
+use Rattle.slice.specs.Point.{Point, point_of, before_line, Holds, Misses}
+use Rattle.slice.specs.Right.{all_line, rest_of}
 
--- THE CHILDREN THAT ARE LEFT, ONE OFF
-pub branch-line : (d n : ℕ) (s : List ℕ) (ks us : List Branch) (i : ℕ) (p : Place) (x : ℕ) → 0 < n → ks ≡ branch i (part s p) ∷ us
-    → ((u : List ℕ) → cut u x p.stop ≡ drop d (cut u p.start p.stop))
-    → branch_line d n ks ≡ bytes_of (defined.child i (cut s x p.stop)) ++ branch_line d (n - 1) us
-unfolding branch_line
-branch-line d zero s ks us i p x h e past = absurd (omega arith)
-branch-line d (suc n) s ks us i p x h e past =
-    let z : n ≡ suc n - 1 = omega arith in
-    ap (branch_line d (suc n)) e
-    ∙ ap₂ (λ l m. bytes_of (defined.child i l) ++ branch_line d m us) (sym (past s)) z
+pub pushed-child : (i : ℕ) (k k' : List ℕ) → k' ≡ k → bytes_of (defined.child i k) ≡ bytes_of (defined.child i k')
+pushed-child i k k' e = ap (λ l. bytes_of (defined.child i l)) (sym e)
 
-pub line-none : (d n : ℕ) (ks : List Branch) → ks ≡ [] → branch_line d n ks ≡ []
-unfolding branch_line
-line-none d zero ks e = refl
-line-none d (suc n) ks e = ap (branch_line d (suc n)) e
+-- what is left fits where the whole does
+pub left-fits : (now rest old whole : List ℕ) → now ++ rest ≡ old ++ whole → length old + length whole ≤ 1016 → length now + length rest ≤ 1016
+left-fits now rest old whole e h = let a = ap length e in let b = length-append now rest in let c = length-append old whole in omega arith
 
-pub line-zero : (d n : ℕ) (ks : List Branch) → n ≤ 0 → branch_line d n ks ≡ []
-unfolding branch_line
-line-zero d zero ks h = refl
-line-zero d (suc n) ks h = absurd (omega arith)
+-- NO CHILD
+module _ (d m : ℕ) (hi k : List ℕ) (ks : List image.Branch) (e : ks ≡ []) where
+  pub all-none : all_line d ks ≡ []
+  unfolding all_line
+  all-none = rw e
 
--- ONE CHILD BEHIND THE OTHERS
-module _ (page p₁ A : List ℕ) (to num d : ℕ) (s : List ℕ) (low : Place) (x : ℕ) (past : (u : List ℕ) → cut u x low.stop ≡ drop d (cut u low.start low.stop))
-    (room : 8 + length (A ++ bytes_of (defined.child num (drop d (part s low)))) ≤ length page) (et : to ≡ 8 + length A) (ep : p₁ ≡ put page 8 A) (same : length p₁ ≡ length page) where
-  as-cut : bytes_of (defined.child num (cut s x low.stop)) ≡ bytes_of (defined.child num (drop d (part s low)))
-  as-cut = ap (λ l. bytes_of (defined.child num l)) (past s)
+  pub before-none : before_line d m ks hi k ≡ []
+  unfolding before_line
+  before-none = rw e
 
-  sized : 6 + length (cut s x low.stop) ≡ length (bytes_of (defined.child num (drop d (part s low))))
-  sized = sym (child-size num (cut s x low.stop)) ∙ ap length as-cut
+  pub misses-none : (n : ℕ) → Misses (point_of n ks hi k)
+  unfolding point_of Misses
+  misses-none n = rw e tt
 
-  pub behind-fits : to + (6 + length (cut s x low.stop)) ≤ length p₁
-  behind-fits = let a = sized in let b = length-append A (bytes_of (defined.child num (drop d (part s low)))) in omega arith
+  pub rest-none : rest_of ks hi k ≡ []
+  unfolding rest_of
+  rest-none = rw e
 
-  pub behind-put : (p₂ : List ℕ) → p₂ ≡ put p₁ to (bytes_of (defined.child num (cut s x low.stop))) → p₂ ≡ put page 8 (A ++ bytes_of (defined.child num (drop d (part s low))))
-  behind-put p₂ e =
-      let b = length-append A (bytes_of (defined.child num (drop d (part s low)))) in
-      e ∙ ap (put p₁ to) as-cut ∙ ap₂ (λ y z. put y z (bytes_of (defined.child num (drop d (part s low))))) ep et
-      ∙ put-put page 8 A (bytes_of (defined.child num (drop d (part s low)))) (omega arith)
+-- A CHILD, with its high pivot h
+module _ (d m : ℕ) (hi k : List ℕ) (ks us : List image.Branch) (b : Branch) (e : ks ≡ branch b.number b.low.now ∷ us) where
+  pub all-off : all_line d ks ≡ bytes_of (defined.child b.number (drop d b.low.now)) ++ all_line d us
+  unfolding all_line
+  all-off = rw e
 
-  pub behind-ends : (r : ℕ) → r ≡ to + (6 + length (cut s x low.stop)) → r ≡ 8 + length (A ++ bytes_of (defined.child num (drop d (part s low))))
-  behind-ends r e = let a = sized in let b = length-append A (bytes_of (defined.child num (drop d (part s low)))) in omega arith
+  module _ (hi₁ : List ℕ) (ends₁ : b.high.now ≡ branch_high hi₁ us) (keeps : hi₁ ≡ hi) where
+    ends : b.high.now ≡ branch_high hi us
+    ends = ends₁ ∙ ap (λ x. branch_high x us) keeps
 
-pub first-room : (page A B : List ℕ) → 8 + length (A ++ B) ≤ length page → 8 + length A ≤ length page
-first-room page A B h = let b = length-append A B in omega arith
+    test-is : before k b.high.now ≡ before k (branch_high hi us)
+    test-is = ap (before k) ends
 
--- THE PART BEFORE A CUT, BY THE ANSWER
-module _ (s : List ℕ) (d m : ℕ) (ks : List Branch) (c : Cut) where
-  pub left-inner : (n i : ℕ) (p q : Place) → c ≡ Cut.Inner n i p q → branch_line d n ks ++ bytes_of (defined.child m (drop d (part s p))) ≡ left_line d m ks (point_in s [] c)
-  unfolding left_line point_in count_of cut_line
-  left-inner n i p q e = ap (λ z. left_line d m ks (point_in s [] z)) (sym e)
+    -- that ends at the cut or before it
+    module _ (f : false ≡ before k b.high.now) where
+      past : before k (branch_high hi us) ≡ false
+      past = sym test-is ∙ sym f
 
-  pub left-last : (n i : ℕ) (p : Place) → c ≡ Cut.Last n i p → branch_line d n ks ++ bytes_of (defined.child m (drop d (part s p))) ≡ left_line d m ks (point_in s [] c)
-  unfolding left_line point_in count_of cut_line
-  left-last n i p e = ap (λ z. left_line d m ks (point_in s [] z)) (sym e)
+      pub before-past : before_line d m ks hi k ≡ bytes_of (defined.child b.number (drop d b.low.now)) ++ before_line d m us hi k
+      unfolding before_line
+      before-past = rw (e, past)
 
-  pub left-between : (n : ℕ) (p : Place) → c ≡ Cut.Between n p → branch_line d n ks ≡ left_line d m ks (point_in s [] c)
-  unfolding left_line point_in count_of cut_line
-  left-between n p e = sym (append-nil (branch_line d n ks)) ∙ ap (λ z. left_line d m ks (point_in s [] z)) (sym e)
+      pub point-past : (n : ℕ) → point_of (n + 1) us hi k ≡ point_of n ks hi k
+      unfolding point_of
+      point-past n = rw (e, past)
 
-  pub left-nowhere : (n : ℕ) → c ≡ Cut.Nowhere n → branch_line d n ks ≡ left_line d m ks (point_in s [] c)
-  unfolding left_line point_in count_of cut_line
-  left-nowhere n e = sym (append-nil (branch_line d n ks)) ∙ ap (λ z. left_line d m ks (point_in s [] z)) (sym e)
+      pub rest-past : rest_of ks hi k ≡ rest_of us hi k
+      unfolding rest_of
+      rest-past = rw (e, past)
+
+    module _ (t : true ≡ before k b.high.now) where
+      within-end : before k (branch_high hi us) ≡ true
+      within-end = sym test-is ∙ sym t
+
+      -- that holds the cut
+      module _ (g : true ≡ before b.low.now k) where
+        pub before-held : before_line d m ks hi k ≡ bytes_of (defined.child m (drop d b.low.now))
+        unfolding before_line
+        before-held = rw (e, within-end, sym g)
+
+        pub point-held : (n : ℕ) → Holds (point_of n ks hi k) b
+        unfolding point_of
+        point-held n = record { count = n; is = rw (e, within-end, sym g) (ap (Point.within n b.number b.low.now) (sym ends)) }
+
+        pub rest-held : rest_of ks hi k ≡ us
+        unfolding rest_of
+        rest-held = rw (e, within-end, sym g)
+
+      -- that starts at the cut or after it
+      module _ (g : false ≡ before b.low.now k) where
+        pub before-missed : before_line d m ks hi k ≡ []
+        unfolding before_line
+        before-missed = rw (e, within-end, sym g)
+
+        pub point-missed : (n : ℕ) → Misses (point_of n ks hi k)
+        unfolding point_of Misses
+        point-missed n = rw (e, within-end, sym g) tt
+
+        pub rest-missed : rest_of ks hi k ≡ ks
+        unfolding rest_of
+        rest-missed = rw (e, within-end, sym g)

@@ -1,19 +1,17 @@
 -- What the chain of empty nodes asks, and its step lemmas. Relies on specs/Moving's `gap_write`.
 use Rattle.std.specs.Prelude.{ℕ, suc, ◌+◌, ◌*◌, ◌-◌, ◌<◌, ◌≤◌, ◌≡◌, refl, List, [], ◌++◌, length, drop, get_or}
 use Rattle.image.specs.Prelude.{sym, ap, ap₂, ◌∙◌, append-nil, arith, length-drop}
-use Rattle.image.specs.Bytes.{u16_bytes, shared}
+use Rattle.image.specs.Bytes.{shared}
 use Rattle.image.specs.Entry as defined
 use Rattle.image.specs.Image.{end, tree}
-use Rattle.octets.specs.Put.{put, put-nil}
 use Rattle.laws.specs.Encode.{bytes_of, bytes_of_all, child-size}
 use Rattle.laws.specs.Pieces.{lower, node}
-use Rattle.laws.specs.Page.{page, pair_entries, child_entries, zeros_of}
+use Rattle.laws.specs.Page.{page, pair_entries, child_entries}
 use Rattle.laws.specs.WriteNode.{write_node}
 use Rattle.slice.specs.Slicing.SliceWrite.{page_of}
 use Rattle.slice.specs.Slicing.Tail.{gap_of}
 use Rattle.slice.specs.Moving.GapWrite.{gap_write, gap-number}
 use Rattle.slice.specs.Point.{fresh_in}
-use Rattle.node.specs.Pages.{page-written}
 
 pub record GapAsks (s : List ℕ) (level : ℕ) (lo : List ℕ) (at : ℕ) (free : List ℕ) : Type 0 where
   pub some : 1 ≤ level
@@ -31,11 +29,10 @@ module _ (s : List ℕ) (level : ℕ) (lo hi : List ℕ) (at : ℕ) (free : List
   unfolding fresh_in
   number = en
 
-  pub gap-leaf : (s' : List ℕ) → level ≤ 1 → s' ≡ put s (new * 1024) (put (put (put (zeros_of 1024) 0 (u16_bytes 0)) 2 (u16_bytes 1)) 4 (u16_bytes 1))
-      → s' ≡ gap_write (fresh_in free) level lo hi at s
-  gap-leaf s' h q =
+  pub gap-leaf : (s' p : List ℕ) → level ≤ 1 → p ≡ [] → s' ≡ write_node s new (page 1 1 p) → s' ≡ gap_write (fresh_in free) level lo hi at s
+  gap-leaf s' p h b q =
       let one : level ≡ 1 = let a = pre.some in omega arith in
-      page-written s s' (zeros_of 1024) new 1 1 8 [] (omega arith) (sym (put-nil (zeros_of 1024) 8)) refl q
+      q ∙ ap (λ l. write_node s new (page 1 1 l)) b
       ∙ ap (λ n. write_node s n (page 1 1 [])) number ∙ shown ∙ ap (λ l. gap_write (fresh_in free) l lo hi at s) (sym one)
     where
       shown : write_node s (fresh_in free at) (page 1 1 []) ≡ gap_write (fresh_in free) 1 lo hi at s
@@ -53,19 +50,18 @@ module _ (s : List ℕ) (level : ℕ) (lo hi : List ℕ) (at : ℕ) (free : List
         }
 
     module _ (d : ℕ) (ed : d ≡ length (shared lo hi)) (m : ℕ) (em : m ≡ get_or free (at + 1) 0) where
-      pub gap-inner : (s₁ s₂ p : List ℕ) (e : ℕ) → s₁ ≡ gap_write (fresh_in free) (level - 1) lo hi (at + 1) s
-          → p ≡ put (zeros_of 1024) 8 (bytes_of (defined.child m (drop d lo))) → e ≡ 8 + (6 + length (drop d lo))
-          → s₂ ≡ put s₁ (new * 1024) (put (put (put p 0 (u16_bytes (e - 8))) 2 (u16_bytes 2)) 4 (u16_bytes level)) → s₂ ≡ gap_write (fresh_in free) level lo hi at s
-      gap-inner s₁ s₂ p e a b c q =
+      pub gap-fits : length (bytes_of (defined.child m (drop d lo))) ≤ 1016
+      gap-fits = let l = child-size m (drop d lo) in let k = length-drop d lo in let f = pre.short in omega arith
+
+      pub gap-inner : (s₁ s₂ bare p : List ℕ) → s₁ ≡ gap_write (fresh_in free) (level - 1) lo hi (at + 1) s → bare ≡ []
+          → p ≡ bare ++ bytes_of (defined.child m (drop d lo)) → s₂ ≡ write_node s₁ new (page 2 level p) → s₂ ≡ gap_write (fresh_in free) level lo hi at s
+      gap-inner s₁ s₂ bare p a nil b q =
           let h = level - 2 in
           let z : at + 1 ≡ suc at = omega arith in
           let v : level - 1 ≡ suc (level - 2) = omega arith in
           let w : level ≡ suc (suc (level - 2)) = omega arith in
-          let l = child-size m (drop d lo) in
-          let k = length-drop d lo in
-          let f = pre.short in
           let child' : m ≡ fresh_in free (suc at) = em ∙ ap (λ n. get_or free n 0) z ∙ later in
-          page-written s₁ s₂ p new 2 level e (bytes_of (defined.child m (drop d lo))) (omega arith) b (omega arith) q
+          q ∙ ap (λ l. write_node s₁ new (page 2 level l)) (b ∙ ap (λ l. l ++ bytes_of (defined.child m (drop d lo))) nil)
           ∙ ap₂ (λ x n. write_node x n (page 2 level (bytes_of (defined.child m (drop d lo)))))
           (a ∙ ap₂ (λ i j. gap_write (fresh_in free) i lo hi j s) v z) number
           ∙ ap₂ (λ i j. write_node (gap_write (fresh_in free) (suc (level - 2)) lo hi (suc at) s) (fresh_in free at) (page 2 i (bytes_of (defined.child j (drop d lo))))) w child'

@@ -1,5 +1,5 @@
 -- What a left part asks of the store, its pivots, the cut and the free nodes; and the same of the child that holds a cut. Definitions only.
-use Rattle.std.specs.Prelude.{ℕ, ◌+◌, ◌*◌, ◌<◌, ◌≤◌, ◌≡◌, List, true, length}
+use Rattle.std.specs.Prelude.{ℕ, ◌+◌, ◌-◌, ◌*◌, ◌<◌, ◌≤◌, ◌≡◌, List, true, length, take, drop}
 use Rattle.image.specs.Bytes.{before}
 use Rattle.image.specs.Image.{nodes_of, tree_at}
 use Rattle.laws.specs.Reading.Relative.{usable}
@@ -16,6 +16,10 @@ pub record LeftAsks (s : List ℕ) (num level : ℕ) (lo hi k : List ℕ) (at : 
   pub levels : level ≤ 8
   pub enough : at + level ≤ length free
   pub room : (i : ℕ) → i < at + level → fresh_in free i * 1024 + 1024 ≤ length s
+
+-- a list without its first j items, as the code's slice has it
+abbrev pub from : ℕ → List ℕ → List ℕ
+from j l = take (length l - j) (drop j l)
 
 unfoldable pub PointAsks : List ℕ → ℕ → List ℕ → ℕ → List ℕ → Point → Type 0
 PointAsks s level k at free (within n i low high) = LeftAsks s i level low high k at free

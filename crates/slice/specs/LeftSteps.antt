@@ -1,12 +1,11 @@
 -- Step lemmas of the left part: what is composed of a leaf and of an interior node, what the child that holds the cut is asked, and that
 -- the pages written are those of `left_write`. Relies on PointLaws and on specs/Slicing's laws of stripped pivots.
-use Rattle.std.specs.Prelude.{ℕ, zero, suc, ◌+◌, ◌*◌, ◌-◌, ◌≤◌, ◌≡◌, refl, List, [], ◌∷◌, ◌++◌, Bool, true, false, ◌&&◌, length, take, drop, leb, get_or}
-use Rattle.image.specs.Prelude.{sym, ap, ap₂, subst, ◌∙◌, append-nil, false≢true, arith, length-append, drop_of_length-le, leb-true, lt-ltb}
-use Rattle.image.specs.Bytes.{u16, before, shared}
+use Rattle.std.specs.Prelude.{ℕ, zero, suc, ◌+◌, ◌*◌, ◌-◌, ◌≤◌, ◌≡◌, refl, List, [], ◌∷◌, ◌++◌, Bool, true, false, ◌&&◌, length, drop, leb, get_or}
+use Rattle.image.specs.Prelude.{sym, ap, ap₂, subst, ◌∙◌, false≢true, arith, length-append, leb-true, lt-ltb}
+use Rattle.image.specs.Bytes.{before, shared}
 use Rattle.image.specs.Table.{Row}
-use Rattle.image.specs.Image.{Tree, leaf, interior, Forest, Branch, nodes_of, node_bytes, entry_bytes, tree_at, forest_of}
+use Rattle.image.specs.Image.{Tree, leaf, interior, Forest, Branch, nodes_of, tree_at, forest_of}
 use Rattle.octets.specs.Order.{and_left, and_right, before-append}
-use Rattle.octets.specs.Put.{put}
 use Rattle.laws.specs.Rising.{both}
 use Rattle.laws.specs.Encode.{bytes_of_all}
 use Rattle.laws.specs.Filter.{keep, up_to, lower_rows}
@@ -20,17 +19,17 @@ use Rattle.slice.specs.Slicing.ReadBack.{pairs-size, branches-size}
 use Rattle.slice.specs.Slicing.SliceStrip.{split-low, split-high, split-cut, left-strip, left-leaf-bare, left-node-bare}
 use Rattle.slice.specs.Slicing.SliceWrite.{page_of, left_write, left_write_in}
 use Rattle.slice.specs.Slicing.WriteStrip.{left-write-strip}
-use Rattle.node.specs.Cut.{cut, cut-length}
-use Rattle.node.specs.Entries.{listed, list_of}
-use Rattle.node.specs.Places.{part, Within}
-use Rattle.node.specs.declared.Place.{Place}
+use Rattle.node.specs.Cut.{cut}
+use Rattle.node.specs.Whole.{HasEntries}
+use Rattle.node.specs.declared.branches.Branch as child
+use Rattle.push.specs.NodeSteps.{copy-size, copy-count, copy_lists}
+use Rattle.image.specs.Entry as defined
 use Rattle.node.specs.Search.Own.{branches_among}
-use Rattle.lookup.specs.Look.{node-is, count-is, bytes-is, listing, LeafAt, InteriorAt, leaf-at, interior-at, node-inside, inside-splits}
+use Rattle.lookup.specs.Look.{part-rest, listing, LeafAt, InteriorAt, leaf-at, interior-at, node-inside, inside-splits}
 use Rattle.push.specs.Laws.Written.{small_numbers}
-use Rattle.slice.specs.declared.Cut.{Cut}
-use Rattle.slice.specs.Point.{Point, within, between, nowhere, fresh_in, point_of, count_of, wholes, point_in, CutFits, CutAs, branch_line, cut_line, left_line, left_at, on_side, side_line}
-use Rattle.slice.specs.PointLaws.{point-count, left-line, left-write, side-line}
-use Rattle.slice.specs.Left.{LeftAsks, PointAsks}
+use Rattle.slice.specs.Point.{Point, within, between, nowhere, fresh_in, point_of, Holds, Misses, before_line, left_at, side_line}
+use Rattle.slice.specs.PointLaws.{before-line, left-write, side-line}
+use Rattle.slice.specs.Left.{LeftAsks, PointAsks, from}
 use Rattle.octets.specs.Beginnings.{strip-shared}
 
 pub small-branches : (n : ℕ) (under : ℕ → Tree) (ks : List Branch) → n ≤ 1024 → ((j : ℕ) → number_of (under j) ≡ j) → usable_in n (forest_of under ks) ≡ true → small_numbers ks ≡ true
@@ -66,14 +65,7 @@ module _ (fresh : ℕ → ℕ) (under : ℕ → Tree) (hi k l : List ℕ) (m at 
       go true a false b ih = rw (a, b) tt
       go false a y b ih = rw a (ih (and_right (fits t) _ (rw (high-at under hi cs, a) at e)))
 
--- THE ENTRIES OF THE PART, WHATEVER THE HIGH PIVOT
-pub line-high : (s hi : List ℕ) (d m : ℕ) (ks : List Branch) (c : Cut) → left_line d m ks (point_in s [] c) ≡ left_line d m ks (point_in s hi c)
-unfolding left_line point_in count_of cut_line
-line-high s hi d m ks (Cut.Inner n i p q) = refl
-line-high s hi d m ks (Cut.Last n i p) = refl
-line-high s hi d m ks (Cut.Between n p) = refl
-line-high s hi d m ks (Cut.Nowhere n) = refl
-
+-- LEVELS
 pub some_level : (n level : ℕ) (s : List ℕ) (i : ℕ) → usable n (tree_at level s i) ≡ true → 1 ≤ level
 unfolding tree_at usable
 some_level n zero s i e = absurd (false≢true e)
@@ -83,18 +75,17 @@ pub one-level : (n level : ℕ) (s : List ℕ) (i : ℕ) → level ≤ 1 → usa
 one-level n level s i h e = omega (arith, some_level n level s i e)
 
 -- A NODE'S COPY
-module _ (s : List ℕ) (num level : ℕ) (reads : usable (nodes_of (length s)) (tree_at level s num) ≡ true) (node' : List ℕ) (en : node' ≡ node_bytes s num) (len : ℕ) (el : len ≡ u16 node' 0) where
-  pub node-short : len ≤ 1016
-  node-short =
-      let a : len ≡ u16 s (num * 1024) = el ∙ ap (λ l. u16 l 0) en ∙ count-is s num (node-inside s num level reads).0 in
-      let b = (node-inside s num level reads).1 in
-      omega arith
+module _ (s : List ℕ) (num level : ℕ) (reads : usable (nodes_of (length s)) (tree_at level s num) ≡ true) (node' : List ℕ) (en : node' ≡ cut s (num * 1024) (num * 1024 + 1024)) where
+  pub copy-entries : HasEntries node' 0
+  copy-entries =
+      let i = node-inside s num level reads in
+      let z = copy-size s num i.0 node' en in
+      let n = copy-count s num i.0 node' en in
+      let h = i.1 in
+      (omega arith, omega arith)
 
-  pub node_lists : listed node' 8 (8 + len) ≡ listing s num
-  unfolding listed entry_bytes
-  node_lists =
-      let z : 8 + len - 8 ≡ u16 (node_bytes s num) 0 = let q : len ≡ u16 (node_bytes s num) 0 = el ∙ ap (λ l. u16 l 0) en in omega arith in
-      ap list_of (ap₂ (λ n l. take n (drop 8 l)) z en ∙ bytes-is s num (node-inside s num level reads).0 (node-inside s num level reads).1)
+  pub copied : (es : List defined.Entry) → es ≡ listing node' 0 → es ≡ listing s num
+  copied es q = let i = node-inside s num level reads in q ∙ copy_lists s num i.0 node' en i.1
 
 -- ONE NODE
 module _ (s : List ℕ) (num level : ℕ) (lo hi k : List ℕ) (at : ℕ) (free : List ℕ) (pre : LeftAsks s num level lo hi k at free) where
@@ -108,13 +99,7 @@ module _ (s : List ℕ) (num level : ℕ) (lo hi k : List ℕ) (at : ℕ) (free 
   unfolding fresh_in
   left-new new e = let r = pre.room at (let a = left-level in omega arith) in omega arith
 
-  module _ (bare : shared lo hi ≡ []) (node' : List ℕ) (en : node' ≡ node_bytes s num) (len : ℕ) (el : len ≡ u16 node' 0) (d : ℕ) (ed : d ≡ length (shared lo k)) where
-    pub left_short : len ≤ 1016
-    left_short = node-short s num level pre.reads node' en len el
-
-    lists : listed node' 8 (8 + len) ≡ listing s num
-    lists = node_lists s num level pre.reads node' en len el
-
+  module _ (bare : shared lo hi ≡ []) (es : List defined.Entry) (lists : es ≡ listing s num) (d : ℕ) (ed : d ≡ length (shared lo k)) where
     -- a leaf
     module _ (leafy : level ≤ 1) where
       leaf' : LeafAt s num level
@@ -126,20 +111,18 @@ module _ (s : List ℕ) (num level : ℕ) (lo hi k : List ℕ) (at : ℕ) (free 
       part-is : left_of (fresh_in free) (tree_at level s num) lo hi k at ≡ leaf (fresh_in free at) kept
       part-is = ap (λ t. left_of (fresh_in free) t lo hi k at) leaf'.tree ∙ left-leaf-bare (fresh_in free) num leaf'.rs lo hi k at bare
 
-      line-is : bytes_of_all (pair_entries kept) ≡ side_line true k d (listed node' 8 (8 + len))
-      unfolding on_side
+      line-is : bytes_of_all (pair_entries kept) ≡ side_line (up_to k) d es
       line-is =
-          side-line true k (shared lo k) leaf'.es leaf'.rs leaf'.pairs
-          ∙ ap₂ (λ n es. side_line true k n es) (sym ed) (sym (lists ∙ leaf'.node.lists))
+          side-line (up_to k) (shared lo k) leaf'.es leaf'.rs leaf'.pairs ∙ ap₂ (λ n l. side_line (up_to k) n l) (sym ed) (sym (lists ∙ leaf'.node.lists))
 
-      pub leaf-fits : length (side_line true k d (listed node' 8 (8 + len))) ≤ 1016
+      pub leaf-fits : length (side_line (up_to k) d es) ≤ 1016
       unfolding fits
       leaf-fits =
           let a : leb (pairs_size kept) 1016 ≡ true = ap fits (sym part-is) ∙ pre.small in
           let b = ap length line-is in
           omega (arith, leb-true (pairs_size kept) 1016 a, pairs-size kept)
 
-      pub leaf-written : (new : ℕ) (s' : List ℕ) → new ≡ get_or free at 0 → s' ≡ write_node s new (page 1 1 (side_line true k d (listed node' 8 (8 + len))))
+      pub leaf-written : (new : ℕ) (s' : List ℕ) → new ≡ get_or free at 0 → s' ≡ write_node s new (page 1 1 (side_line (up_to k) d es))
           → s' ≡ left_write (fresh_in free) (tree_at level s num) level lo hi k at s
       unfolding left_write page_of fresh_in
       leaf-written new s' e q =
@@ -150,18 +133,15 @@ module _ (s : List ℕ) (num level : ℕ) (lo hi k : List ℕ) (at : ℕ) (free 
           ∙ ap (λ t. left_write (fresh_in free) t level lo hi k at s) (sym leaf'.tree)
 
     -- an interior node
-    module _ (inner : 2 ≤ level) where
+    module _ (inner : 2 ≤ level) (ks : List Branch) (among : ks ≡ branches_among es) where
       inner' : InteriorAt s num level (level - 1)
       inner' = interior-at s num level inner pre.reads
-
-      abbrev ks : List Branch
-      ks = branches_among (listed node' 8 (8 + len))
 
       abbrev under : ℕ → Tree
       under = λ j. tree_at (level - 1) s j
 
       branches-are : inner'.x.branches ≡ ks
-      branches-are = sym (ap branches_among (lists ∙ inner'.node.lists) ∙ (inside-splits inner'.es inner'.x inner'.splits).branches)
+      branches-are = sym (among ∙ ap branches_among (lists ∙ inner'.node.lists) ∙ (inside-splits inner'.es inner'.x inner'.splits).branches)
 
       usables : usable_in (nodes_of (length s)) (forest_of under ks) ≡ true
       usables = ap (λ l. usable_in (nodes_of (length s)) (forest_of under l)) (sym branches-are) ∙ inner'.branches
@@ -208,34 +188,27 @@ module _ (s : List ℕ) (num level : ℕ) (lo hi k : List ℕ) (at : ℕ) (free 
       asks_of (between n low) h = tt
       asks_of (nowhere n) h = tt
 
-      module _ (c : Cut) (as-cut : CutAs node' hi (point_of 0 ks hi k) c) (m : ℕ) (em : m ≡ get_or free (at + 1) 0) where
+      pub child-asks : PointAsks s (level - 1) k (at + 1) free (point_of 0 ks hi k)
+      child-asks =
+          asks_of (point_of 0 ks hi k)
+          (point-is (fresh_in free) under hi k (shared lo k) (nodes_of (length s)) (suc at) ks 0 usables pieces-fit)
+
+      module _ (m : ℕ) (em : m ≡ get_or free (at + 1) 0) where
         number_is : m ≡ fresh_in free (suc at)
         unfolding fresh_in
         number_is = let z : at + 1 ≡ suc at = omega arith in em ∙ ap (λ n. get_or free n 0) z
 
-        line-is' : bytes_of_all (child_entries (lower (shared lo k) pieces)) ≡ left_line d m ks (point_in node' [] c)
-        unfolding left_line
+        line-is' : bytes_of_all (child_entries (lower (shared lo k) pieces)) ≡ before_line d m ks hi k
         line-is' =
-            let x : Point = point_of 0 ks hi k in
-            let z : wholes ks hi k ≡ count_of x = sym (point-count 0 ks hi k ∙ omega arith) in
-            left-line (fresh_in free) under hi k (shared lo k) ks 0 (suc at) (nodes_of (length s)) (λ j. number_read (level - 1) s j) usables
-            ∙ ap (λ n. branch_line (length (shared lo k)) n ks ++ cut_line (length (shared lo k)) (fresh_in free (suc at)) x) z
-            ∙ ap₂ (λ a b. left_line a b ks x) (sym ed) (sym number_is)
-            ∙ ap (left_line d m ks) (sym as-cut.meant)
-            ∙ sym (line-high node' hi d m ks c)
+            before-line (fresh_in free) under hi k (shared lo k) ks (suc at) (nodes_of (length s)) (λ j. number_read (level - 1) s j) usables
+            ∙ ap₂ (λ a b. before_line a b ks hi k) (sym ed) (sym number_is)
 
-        pub inner-fits : length (left_line d m ks (point_in node' [] c)) ≤ 1016
+        pub inner-fits : length (before_line d m ks hi k) ≤ 1016
         inner-fits = let a = size_fits in let b = branches-size (lower (shared lo k) pieces) in let e = ap length line-is' in omega arith
 
-        pub child-asks : PointAsks s (level - 1) k (at + 1) free (point_in node' hi c)
-        child-asks =
-            subst (PointAsks s (level - 1) k (at + 1) free) (sym as-cut.meant)
-            (asks_of (point_of 0 ks hi k)
-            (point-is (fresh_in free) under hi k (shared lo k) (nodes_of (length s)) (suc at) ks 0 usables pieces-fit))
-
         pub inner-written : (new : ℕ) (s₁ s₂ : List ℕ) → new ≡ get_or free at 0
-            → s₁ ≡ left_at (fresh_in free) under (level - 1) k (at + 1) s (point_in node' hi c)
-            → s₂ ≡ write_node s₁ new (page 2 level (left_line d m ks (point_in node' [] c)))
+            → s₁ ≡ left_at (fresh_in free) under (level - 1) k (at + 1) s (point_of 0 ks hi k)
+            → s₂ ≡ write_node s₁ new (page 2 level (before_line d m ks hi k))
             → s₂ ≡ left_write (fresh_in free) (tree_at level s num) level lo hi k at s
         inner-written new s₁ s₂ e a b =
             let f : Forest = forest_of under ks in
@@ -243,8 +216,7 @@ module _ (s : List ℕ) (num level : ℕ) (lo hi k : List ℕ) (at : ℕ) (free 
             let w : level ≡ suc (level - 1) = omega arith in
             let number : new ≡ fresh_in free at = e ∙ own in
             let first : s₁ ≡ left_write_in (fresh_in free) f (level - 1) [] hi k (suc at) s =
-            a ∙ ap (left_at (fresh_in free) under (level - 1) k (at + 1) s) as-cut.meant
-            ∙ ap (λ n. left_at (fresh_in free) under (level - 1) k n s (point_of 0 ks hi k)) z
+            a ∙ ap (λ n. left_at (fresh_in free) under (level - 1) k n s (point_of 0 ks hi k)) z
             ∙ sym (left-write (fresh_in free) under hi k ks 0 (level - 1) (suc at) s) in
             b
             ∙ ap₂ (λ x y. write_node x new (page 2 level y)) first (sym line-is')
@@ -271,95 +243,56 @@ module _ (s : List ℕ) (i level : ℕ) (low high k : List ℕ) (at : ℕ) (free
   pub strip-high : j ≤ length high
   strip-high = let a = ap length (split-high low high) in let b = length-append (shared low high) (drop (length (shared low high)) high) in omega arith
 
-  module _ (low' high' k' : List ℕ) (e : low' ≡ drop j low) (f : high' ≡ drop j high) (g : k' ≡ drop j k) where
-    el : low' ≡ drop (length (shared low high)) low
-    el = e ∙ ap (λ n. drop n low) ej
+  low' : from j low ≡ drop (length (shared low high)) low
+  low' = part-rest j low ∙ ap (λ n. drop n low) ej
 
-    eh : high' ≡ drop (length (shared low high)) high
-    eh = f ∙ ap (λ n. drop n high) ej
+  high' : from j high ≡ drop (length (shared low high)) high
+  high' = part-rest j high ∙ ap (λ n. drop n high) ej
 
-    ek : k' ≡ drop (length (shared low high)) k
-    ek = g ∙ ap (λ n. drop n k) ej
+  k' : from j k ≡ drop (length (shared low high)) k
+  k' = part-rest j k ∙ ap (λ n. drop n k) ej
 
-    pub strip-bare : shared low' high' ≡ []
-    strip-bare = ap₂ shared el eh ∙ strip-shared low high
+  pub strip-bare : shared (from j low) (from j high) ≡ []
+  strip-bare = ap₂ shared low' high' ∙ strip-shared low high
 
-    pub strip-asks : LeftAsks s i level low' high' k' at free
-    strip-asks =
-        record {
-          reads = pre.reads;
-          small =
-              (λ z. fits (left_of (fresh_in free) (tree_at level s i) (el z) (eh z) (ek z) at))
-              ∙ ap fits (sym (left-strip low high (fresh_in free) k pre.above pre.below (tree_at level s i) at)) ∙ pre.small;
-          above =
-              ap₂ before el ek ∙ sym (before-append (shared low high) (drop (length (shared low high)) low) (drop (length (shared low high)) k))
-              ∙ ap₂ before (split-low low high) within-k ∙ pre.above;
-          below =
-              ap₂ before ek eh ∙ sym (before-append (shared low high) (drop (length (shared low high)) k) (drop (length (shared low high)) high))
-              ∙ ap₂ before within-k (split-high low high) ∙ pre.below;
-          few = pre.few;
-          levels = pre.levels;
-          enough = pre.enough;
-          room = pre.room;
-        }
+  pub strip-asks : LeftAsks s i level (from j low) (from j high) (from j k) at free
+  strip-asks =
+      record {
+        reads = pre.reads;
+        small =
+            (λ z. fits (left_of (fresh_in free) (tree_at level s i) (low' z) (high' z) (k' z) at))
+            ∙ ap fits (sym (left-strip low high (fresh_in free) k pre.above pre.below (tree_at level s i) at)) ∙ pre.small;
+        above =
+            ap₂ before low' k' ∙ sym (before-append (shared low high) (drop (length (shared low high)) low) (drop (length (shared low high)) k))
+            ∙ ap₂ before (split-low low high) within-k ∙ pre.above;
+        below =
+            ap₂ before k' high' ∙ sym (before-append (shared low high) (drop (length (shared low high)) k) (drop (length (shared low high)) high))
+            ∙ ap₂ before within-k (split-high low high) ∙ pre.below;
+        few = pre.few;
+        levels = pre.levels;
+        enough = pre.enough;
+        room = pre.room;
+      }
 
-    pub strip-written : (s' : List ℕ) → s' ≡ left_write (fresh_in free) (tree_at level s i) level low' high' k' at s → s' ≡ left_write (fresh_in free) (tree_at level s i) level low high k at s
-    strip-written s' q =
-        q ∙ (λ z. left_write (fresh_in free) (tree_at level s i) level (el z) (eh z) (ek z) at s)
-        ∙ sym (left-write-strip (fresh_in free) low high k pre.above pre.below (tree_at level s i) level at s)
-
--- THE PLACES OF A CUT, in its node
-pub record Placed (node : List ℕ) (p : Place) : Type 0 where
-  pub inside : Within 0 (length node) p
-  pub size : length (part node p) ≡ p.stop - p.start
-
-module _ (node' : List ℕ) (c : Cut) where
-  placed : (p : Place) → Within 0 (length node') p → Placed node' p
-  placed p w = record { inside = w; size = cut-length node' p.start p.stop w.rises w.high }
-
-  pub inner-places : (n i : ℕ) (p q : Place) → c ≡ Cut.Inner n i p q → CutFits (length node') c → Placed node' p × Placed node' q
-  unfolding CutFits
-  inner-places n i p q e h = let w : CutFits (length node') (Cut.Inner n i p q) = subst (CutFits (length node')) e h in (placed p w.0, placed q w.1)
-
-  pub last-places : (n i : ℕ) (p : Place) → c ≡ Cut.Last n i p → CutFits (length node') c → Placed node' p
-  unfolding CutFits
-  last-places n i p e h = placed p (subst (CutFits (length node')) e h)
+  pub strip-written : (s' : List ℕ) → s' ≡ left_write (fresh_in free) (tree_at level s i) level (from j low) (from j high) (from j k) at s → s' ≡ left_write (fresh_in free) (tree_at level s i) level low high k at s
+  strip-written s' q =
+      q ∙ (λ z. left_write (fresh_in free) (tree_at level s i) level (low' z) (high' z) (k' z) at s)
+      ∙ sym (left-write-strip (fresh_in free) low high k pre.above pre.below (tree_at level s i) level at s)
 
 -- BY THE ANSWER
-module _ (s node' hi k : List ℕ) (level at : ℕ) (free : List ℕ) (c : Cut) where
-  pub inner-asks : (n i : ℕ) (p q : Place) → c ≡ Cut.Inner n i p q → PointAsks s level k at free (point_in node' hi c) → LeftAsks s i level (part node' p) (part node' q) k at free
-  unfolding PointAsks point_in
-  inner-asks n i p q e h = subst (λ z. PointAsks s level k at free (point_in node' hi z)) e h
+module _ (s k : List ℕ) (level at : ℕ) (free : List ℕ) (x : Point) where
+  module _ (b : child.Branch) (h : Holds x b) where
+    pub held-asks : PointAsks s level k at free x → LeftAsks s b.number level b.low.now b.high.now k at free
+    unfolding PointAsks
+    held-asks a = subst (PointAsks s level k at free) h.is a
 
-  pub last-asks : (n i : ℕ) (p : Place) → c ≡ Cut.Last n i p → PointAsks s level k at free (point_in node' hi c) → LeftAsks s i level (part node' p) hi k at free
-  unfolding PointAsks point_in
-  last-asks n i p e h = subst (λ z. PointAsks s level k at free (point_in node' hi z)) e h
+    pub held-at : (s' : List ℕ) → s' ≡ left_write (fresh_in free) (tree_at level s b.number) level b.low.now b.high.now k at s
+        → s' ≡ left_at (fresh_in free) (λ j. tree_at level s j) level k at s x
+    unfolding left_at
+    held-at s' q = q ∙ ap (left_at (fresh_in free) (λ j. tree_at level s j) level k at s) (sym h.is)
 
-  module _ (s' : List ℕ) where
-    pub inner-at : (n i : ℕ) (p q : Place) → c ≡ Cut.Inner n i p q → s' ≡ left_write (fresh_in free) (tree_at level s i) level (part node' p) (part node' q) k at s
-        → s' ≡ left_at (fresh_in free) (λ j. tree_at level s j) level k at s (point_in node' hi c)
-    unfolding left_at point_in
-    inner-at n i p q e h = h ∙ ap (λ z. left_at (fresh_in free) (λ j. tree_at level s j) level k at s (point_in node' hi z)) (sym e)
-
-    pub last-at : (n i : ℕ) (p : Place) → c ≡ Cut.Last n i p → s' ≡ left_write (fresh_in free) (tree_at level s i) level (part node' p) hi k at s
-        → s' ≡ left_at (fresh_in free) (λ j. tree_at level s j) level k at s (point_in node' hi c)
-    unfolding left_at point_in
-    last-at n i p e h = h ∙ ap (λ z. left_at (fresh_in free) (λ j. tree_at level s j) level k at s (point_in node' hi z)) (sym e)
-
-  pub between-at : (n : ℕ) (p : Place) → c ≡ Cut.Between n p → s ≡ left_at (fresh_in free) (λ j. tree_at level s j) level k at s (point_in node' hi c)
-  unfolding left_at point_in
-  between-at n p e = ap (λ z. left_at (fresh_in free) (λ j. tree_at level s j) level k at s (point_in node' hi z)) (sym e)
-
-  pub nowhere-at : (n : ℕ) → c ≡ Cut.Nowhere n → s ≡ left_at (fresh_in free) (λ j. tree_at level s j) level k at s (point_in node' hi c)
-  unfolding left_at point_in
-  nowhere-at n e = ap (λ z. left_at (fresh_in free) (λ j. tree_at level s j) level k at s (point_in node' hi z)) (sym e)
-
--- A COPY OF A NODE
-pub node-copied : (s : List ℕ) (i : ℕ) (page node' : List ℕ) → i * 1024 + 1024 ≤ length s → length page ≡ 1024
-    → node' ≡ put page 0 (cut s (i * 1024) (i * 1024 + 1024)) → node' ≡ node_bytes s i
-unfolding put
-node-copied s i page node' h e q =
-    let b : List ℕ = cut s (i * 1024) (i * 1024 + 1024) in
-    let n : length (cut s (i * 1024) (i * 1024 + 1024)) ≡ 1024 = cut-length s (i * 1024) (i * 1024 + 1024) (omega arith) h ∙ omega arith in
-    let none_left : drop (0 + length (cut s (i * 1024) (i * 1024 + 1024))) page ≡ [] = drop_of_length-le page {i = 0 + length (cut s (i * 1024) (i * 1024 + 1024))} (omega arith) in
-    q ∙ ap (λ l. cut s (i * 1024) (i * 1024 + 1024) ++ l) none_left ∙ append-nil (cut s (i * 1024) (i * 1024 + 1024)) ∙ sym (node-is s i h)
+pub missed-at : (s k : List ℕ) (level at : ℕ) (free : List ℕ) (x : Point) → Misses x → s ≡ left_at (fresh_in free) (λ j. tree_at level s j) level k at s x
+unfolding left_at Misses
+missed-at s k level at free (within n i low high) h = absurd h
+missed-at s k level at free (between n low) h = refl
+missed-at s k level at free (nowhere n) h = refl

@@ -3,7 +3,6 @@ pub mod Moving
 pub mod Point
 pub mod PointLaws
 pub mod PairSteps
-pub mod PointSteps
 pub mod BranchSteps
 pub mod Left
 pub mod LeftSteps

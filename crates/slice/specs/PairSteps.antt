@@ -1,70 +1,36 @@
--- Step lemmas of a leaf's part: which entries are written, one after the other, and the page. Relies on Point and on laws' Encode.
-use Rattle.std.specs.Prelude.{ℕ, ◌≡◌, refl, List, [], ◌∷◌, ◌++◌, Bool, true, false, not, cond, drop}
-use Rattle.image.specs.Prelude.{sym, ap, ◌∙◌, append-nil}
-use Rattle.image.specs.Bytes.{before}
+-- Step lemmas of a leaf's part: which entries are written, one after the other. Relies on Point.
+use Rattle.std.specs.Prelude.{ℕ, ◌≡◌, refl, List, [], ◌∷◌, ◌++◌, Bool, true, false, drop}
+use Rattle.std.specs.Borrow.{Bor}
+use Rattle.image.specs.Prelude.{sym, ap, ◌∙◌}
 use Rattle.image.specs.Entry as defined
-use Rattle.octets.specs.Order.{not-true}
-use Rattle.laws.specs.Encode.{bytes_of, keyed_entry, pair-entry}
-use Rattle.laws.specs.RowsRising.{is_true}
-use Rattle.node.specs.Cut.{cut}
-use Rattle.node.specs.Places.{part, entry_in}
-use Rattle.node.specs.declared.Place.{Place}
-use Rattle.node.specs.declared.Message.{Message}
-use Rattle.node.specs.declared.Entry.{Entry}
-use Rattle.slice.specs.Point.{on_side, side_line}
+use Rattle.laws.specs.Encode.{bytes_of}
+use Rattle.node.specs.Lent.{entry_is}
+use Rattle.node.specs.declared.entries.Entry.{Entry}
+use Rattle.slice.specs.Point.{side_line}
 
--- THE TEST
-module _ (left : Bool) (k q : List ℕ) (b : Bool) (t : b ≡ before q k) where
-  pub on-left : left ≡ true → b ≡ on_side left k q
-  unfolding on_side
-  on-left e = t ∙ ap (λ x. on_side x k q) (sym e)
+pub side-none : (test : List ℕ → Bool) (d : ℕ) (es : List defined.Entry) → es ≡ [] → side_line test d es ≡ []
+unfolding side_line
+side-none test d es q = rw q
 
-  pub on-right : left ≡ false → not b ≡ on_side left k q
-  unfolding on_side
-  on-right e = ap not t ∙ ap (λ x. on_side x k q) (sym e)
-
--- ONE ENTRY
-module _ (s k : List ℕ) (left : Bool) (d : ℕ) (e : Entry) where
-  pub side-child : (i : ℕ) (p : Place) → e ≡ Entry.Child i p → side_line left k d (entry_in s e ∷ []) ≡ []
+module _ (test : List ℕ → Bool) (d : ℕ) (e : Entry) (es ts : List defined.Entry) (q : es ≡ entry_is e ∷ ts) where
+  other : (x : Entry) → ((k v : Bor (List ℕ)) → x ≡ Entry.Pair k v → ⊥) → side_line test d (entry_is x ∷ ts) ≡ side_line test d ts
   unfolding side_line
-  side-child i p q = ap (λ z. side_line left k d (entry_in s z ∷ [])) q
+  other (Entry.Pair k v) h = absurd (h k v refl)
+  other (Entry.Child i k) h = refl
+  other (Entry.Message m) h = refl
 
-  pub side-message : (m : Message) → e ≡ Entry.Message m → side_line left k d (entry_in s e ∷ []) ≡ []
-  unfolding side_line
-  side-message m q = ap (λ z. side_line left k d (entry_in s z ∷ [])) q
+  pub side-other : ((k v : Bor (List ℕ)) → e ≡ Entry.Pair k v → ⊥) → side_line test d es ≡ side_line test d ts
+  side-other h = ap (side_line test d) q ∙ other e h
 
-  module _ (p v : Place) (q : e ≡ Entry.Pair p v) (b : Bool) (t : b ≡ on_side left k (part s p)) where
-    by-test : (x : Bool) → on_side left k (part s p) ≡ x
-        → side_line left k d (entry_in s e ∷ []) ≡ cond x (bytes_of (defined.pair (drop d (part s p)) (part s v)) ++ []) []
+  module _ (k v : Bor (List ℕ)) (p : e ≡ Entry.Pair k v) where
+    pub side-not : false ≡ test k.now → side_line test d es ≡ side_line test d ts
     unfolding side_line
-    by-test x g =
-        ap (λ z. side_line left k d (entry_in s z ∷ [])) q ∙ ap (λ z. cond z (bytes_of (defined.pair (drop d (part s p)) (part s v)) ++ []) []) g
+    side-not n = rw (q, p, sym n) refl
 
-    pub side-not : not b ≡ true → side_line left k d (entry_in s e ∷ []) ≡ []
-    side-not n = by-test false (sym t ∙ not-true b n)
+    pub side-yes : true ≡ test k.now → side_line test d es ≡ bytes_of (defined.pair (drop d k.now) v.now) ++ side_line test d ts
+    unfolding side_line
+    side-yes n = rw (q, p, sym n) refl
 
-    pub side-yes : not b ≡ false → (x : ℕ) → ((u : List ℕ) → cut u x p.stop ≡ drop d (cut u p.start p.stop))
-        → keyed_entry 1 (cut s x p.stop) (cut s v.start v.stop) ≡ side_line left k d (entry_in s e ∷ [])
-    side-yes n x past =
-        ap (λ l. keyed_entry 1 l (part s v)) (past s) ∙ sym (pair-entry (drop d (part s p)) (part s v)) ∙ sym (append-nil (bytes_of (defined.pair (drop d (part s p)) (part s v))))
-        ∙ sym (by-test true (sym t ∙ is_true b n))
-
--- ALL ENTRIES
-side-split : (left : Bool) (k : List ℕ) (d : ℕ) (e : defined.Entry) (es : List defined.Entry) → side_line left k d (e ∷ es) ≡ side_line left k d (e ∷ []) ++ side_line left k d es
-unfolding side_line
-side-split left k d (defined.pair q v) es = go (on_side left k q)
-  where
-    go : (x : Bool) → cond x (bytes_of (defined.pair (drop d q) v) ++ side_line left k d es) (side_line left k d es)
-        ≡ cond x (bytes_of (defined.pair (drop d q) v) ++ []) [] ++ side_line left k d es
-    go true = ap (λ l. l ++ side_line left k d es) (sym (append-nil (bytes_of (defined.pair (drop d q) v))))
-    go false = refl
-side-split left k d (defined.child i q) es = refl
-side-split left k d (defined.message m) es = refl
-
-pub side-cons : (left : Bool) (k : List ℕ) (d : ℕ) (es ts : List defined.Entry) (e : defined.Entry) → es ≡ e ∷ ts
-    → side_line left k d es ≡ side_line left k d (e ∷ []) ++ side_line left k d ts
-side-cons left k d es ts e q = ap (side_line left k d) q ∙ side-split left k d e ts
-
-pub side-none : (left : Bool) (k : List ℕ) (d : ℕ) (es : List defined.Entry) → es ≡ [] → side_line left k d es ≡ []
-unfolding side_line
-side-none left k d es q = ap (side_line left k d) q
+-- WHAT IS PUSHED, under the name of what is meant
+pub pushed-pair : (k k' v : List ℕ) → k' ≡ k → bytes_of (defined.pair k v) ≡ bytes_of (defined.pair k' v)
+pushed-pair k k' v e = ap (λ l. bytes_of (defined.pair l v)) (sym e)

@@ -1,91 +1,78 @@
 -- Step lemmas of the pages of a right part. Relies on RightLaws and on octets' `put`.
-use Rattle.std.specs.Prelude.{ℕ, zero, suc, ◌+◌, ◌-◌, ◌*◌, ◌<◌, ◌≤◌, ◌≡◌, refl, List, [], ◌∷◌, ◌++◌, Bool, true, false, not, cond, length, take, drop, eqb, get_or}
-use Rattle.image.specs.Prelude.{sym, ap, ap₂, subst, ◌∙◌, append-nil, false≢true, true≢false, arith, length-append, drop_of_length-le, take_at, drop-drop, drop-nil, eq-eqb, ne_eqb}
+use Rattle.std.specs.Prelude.{ℕ, ◌+◌, ◌*◌, ◌≤◌, ◌≡◌, refl, List, [], ◌∷◌, ◌++◌, Bool, true, false, not, ◌||◌, cond, length, take, drop, eqb, get_or, Option, None, Some, is_some, MatchOption}
+use Rattle.image.specs.Prelude.{sym, ap, ap₂, subst, ◌∙◌, append-nil, append_assoc, arith, length-append, take_at, eq-eqb, ne_eqb}
 use Rattle.image.specs.Bytes.{shared}
 use Rattle.image.specs.Entry as defined
 use Rattle.image.specs.Image.{Branch}
-use Rattle.octets.specs.Put.{put, put-put, put-size, front-is}
+use Rattle.octets.specs.Put.{put, put-put}
 use Rattle.laws.specs.Encode.{bytes_of, child-size}
 use Rattle.laws.specs.Page.{page}
 use Rattle.laws.specs.WriteNode.{write_node}
-use Rattle.node.specs.Entries.{listed}
-use Rattle.node.specs.declared.Cursor.{Cursor}
-use Rattle.node.specs.declared.Place.{Place}
-use Rattle.node.specs.Search.Own.{branch, branches_among}
-use Rattle.lookup.specs.Look.{part-rest}
 use Rattle.laws.specs.Reading.Relative.{branch_high}
-use Rattle.slice.specs.declared.Cut.{Cut}
+use Rattle.node.specs.Search.Own.{branch}
 use Rattle.slice.specs.declared.Parts.{Parts}
-use Rattle.slice.specs.Point.{fresh_in, point_in, branch_line}
-use Rattle.slice.specs.Right.{skip_of, pieces_in, PartsFit, all_line, over_body, two_body, wide_body, with_rest, edge_only, both_told, one_node, head_branch, raise_branches, WideAsks, NarrowAsks, WideReady, WideAs}
-use Rattle.slice.specs.RightLaws.{all_append, all-long, line-all}
+use Rattle.slice.specs.Point.{fresh_in}
+use Rattle.slice.specs.Right.{edge_piece, rest_piece, pieces_in, PartsFit, has_any, all_line, over_body, two_body, wide_body, with_rest, edge_only, both_told, one_node, head_branch, raise_branches, WideAsks, NarrowAsks}
+use Rattle.slice.specs.RightLaws.{all_append, all-long}
 
--- ONE PIECE
-pub piece-short : (pivot : List ℕ) (d : ℕ) → length pivot < d → take (length pivot - length pivot) (drop (length pivot) pivot) ≡ drop d pivot
-piece-short pivot d h =
-    part-rest (length pivot) pivot ∙ drop_of_length-le pivot {i = length pivot} (omega arith) ∙ sym (drop_of_length-le pivot {i = d} (omega arith))
+-- THE PIECES
+module _ (a b d : ℕ) (k out : List ℕ) (p : Parts) where
+  pub pieces-line : all_line d (pieces_in a b k out p) ≡ all_line d (edge_piece a k p.edge) ++ all_line d (rest_piece b out p.rest)
+  unfolding pieces_in
+  pieces-line = all_append d (edge_piece a k p.edge) (rest_piece b out p.rest)
 
-module _ (num at : ℕ) (x y : List ℕ) (e : x ≡ y) (page : List ℕ) where
-  pub piece-fits : at + length (bytes_of (defined.child num y)) ≤ length page → at + (6 + length x) ≤ length page
-  piece-fits h = let a = ap length e in let b = child-size num y in omega arith
+pub edge-yes : (a d : ℕ) (k : List ℕ) (e : Bool) → e ≡ true → all_line d (edge_piece a k e) ≡ bytes_of (defined.child a (drop d k))
+unfolding edge_piece all_line
+edge-yes a d k e q = rw q (append-nil (bytes_of (defined.child a (drop d k))))
 
-  pub piece-put : (p : List ℕ) → p ≡ put page at (bytes_of (defined.child num x)) → p ≡ put page at (bytes_of (defined.child num y))
-  piece-put p h = h ∙ ap (λ l. put page at (bytes_of (defined.child num l))) e
+pub edge-no : (a d : ℕ) (k : List ℕ) (e : Bool) → e ≡ false → all_line d (edge_piece a k e) ≡ []
+unfolding edge_piece all_line
+edge-no a d k e q = rw q
 
-  pub piece-ends : (r : ℕ) → r ≡ at + (6 + length x) → r ≡ at + length (bytes_of (defined.child num y))
-  piece-ends r h = let a = ap length e in let b = child-size num y in omega arith
+pub rest-yes : (b d : ℕ) (out : List ℕ) (r : Option ℕ) (n : ℕ) → r ≡ Some n → all_line d (rest_piece b out r) ≡ bytes_of (defined.child b (drop d (take n out)))
+unfolding rest_piece all_line
+rest-yes b d out r n q = rw q (append-nil (bytes_of (defined.child b (drop d (take n out)))))
 
-module _ (a b d : ℕ) (k out : List ℕ) (parts : Parts) where
-  pub pieces_none : parts ≡ Parts.Nothing → all_line d (pieces_in a b k out parts) ≡ []
-  unfolding pieces_in all_line
-  pieces_none e = ap (λ p. all_line d (pieces_in a b k out p)) e
+pub rest-no : (b d : ℕ) (out : List ℕ) (r : Option ℕ) → r ≡ None → all_line d (rest_piece b out r) ≡ []
+unfolding rest_piece all_line
+rest-no b d out r q = rw q
 
-  pub pieces-edge : parts ≡ Parts.Edge → bytes_of (defined.child a (drop d k)) ≡ all_line d (pieces_in a b k out parts)
-  unfolding pieces_in all_line
-  pieces-edge e = sym (append-nil (bytes_of (defined.child a (drop d k)))) ∙ ap (λ p. all_line d (pieces_in a b k out p)) (sym e)
+pub rest-fits : (m n : ℕ) (p : Parts) → p.rest ≡ Some n → PartsFit m p → n ≤ m
+rest-fits m n p e h = subst (λ r. MatchOption r Unit (λ i. i ≤ m)) e h
 
-  pub pieces-rest : (n : ℕ) → parts ≡ Parts.Rest n → bytes_of (defined.child b (drop d (take (n - 0) (drop 0 out)))) ≡ all_line d (pieces_in a b k out parts)
-  unfolding pieces_in all_line
-  pieces-rest n e =
-      ap (λ l. bytes_of (defined.child b (drop d l))) (front-is n out) ∙ sym (append-nil (bytes_of (defined.child b (drop d (take n out)))))
-      ∙ ap (λ p. all_line d (pieces_in a b k out p)) (sym e)
+-- one child pushed, its pivot under another name
+module _ (now all : List ℕ) (i : ℕ) (x y : List ℕ) (e : all ≡ bytes_of (defined.child i y)) (p : x ≡ y) where
+  same-entry : bytes_of (defined.child i x) ≡ all
+  same-entry = ap (λ l. bytes_of (defined.child i l)) p ∙ sym e
 
-  pub pieces-both : (n : ℕ) → parts ≡ Parts.Both n
-      → bytes_of (defined.child a (drop d k)) ++ bytes_of (defined.child b (drop d (take (n - 0) (drop 0 out)))) ≡ all_line d (pieces_in a b k out parts)
-  unfolding pieces_in all_line
-  pieces-both n e =
-      ap (λ l. bytes_of (defined.child a (drop d k)) ++ l)
-      (ap (λ l. bytes_of (defined.child b (drop d l))) (front-is n out) ∙ sym (append-nil (bytes_of (defined.child b (drop d (take n out))))))
-      ∙ ap (λ p. all_line d (pieces_in a b k out p)) (sym e)
+  pub push-fits : length now + length all ≤ 1016 → length now + length (bytes_of (defined.child i x)) ≤ 1016
+  push-fits h = let a = ap length same-entry in omega arith
 
-pub rest-fits : (m n : ℕ) (parts : Parts) → parts ≡ Parts.Rest n → PartsFit m parts → n ≤ m
-unfolding PartsFit
-rest-fits m n parts e h = subst (PartsFit m) e h
+  pub push-on : (now' : List ℕ) → now' ≡ now ++ bytes_of (defined.child i x) → now' ≡ now ++ all
+  push-on now' q = q ∙ ap (λ l. now ++ l) same-entry
 
-pub both-fits : (m n : ℕ) (parts : Parts) → parts ≡ Parts.Both n → PartsFit m parts → n ≤ m
-unfolding PartsFit
-both-fits m n parts e h = subst (PartsFit m) e h
+pub push-nothing : (now all : List ℕ) → all ≡ [] → now ≡ now ++ all
+push-nothing now all e = sym (append-nil now) ∙ ap (λ l. now ++ l) (sym e)
 
--- ONE AFTER THE OTHER
-module _ (page p₁ A B C : List ℕ) (at to : ℕ) (split : A ++ B ≡ C) (room : at + length C ≤ length page) where
-  pub twice-first : at + length A ≤ length page
-  twice-first = let a = ap length split in let b = length-append A B in omega arith
+pub push-first : (now all : List ℕ) (i : ℕ) (x y B : List ℕ) → all ≡ bytes_of (defined.child i y) ++ B → x ≡ y → length now + length all ≤ 1016
+    → length now + length (bytes_of (defined.child i x)) ≤ 1016
+push-first now all i x y B e p h =
+    let a = ap length e in
+    let b = length-append (bytes_of (defined.child i y)) B in
+    let c = ap (λ l. length (bytes_of (defined.child i l))) p in
+    omega arith
 
-  module _ (et : to ≡ at + length A) where
-    pub twice-second : p₁ ≡ put page at A → to + length B ≤ length p₁
-    twice-second f =
-        let a = ap length split in
-        let b = length-append A B in
-        let same = ap length f ∙ put-size page at A (omega arith) in
-        omega arith
+-- and one behind what is on the page
+module _ (now now₁ E all : List ℕ) (i : ℕ) (x y : List ℕ) (f : now₁ ≡ now ++ E) (e : all ≡ E ++ bytes_of (defined.child i y)) (p : x ≡ y) where
+  whole : now₁ ++ bytes_of (defined.child i x) ≡ now ++ all
+  whole =
+      ap₂ (λ l m. l ++ bytes_of (defined.child i m)) f p ∙ append_assoc now E (bytes_of (defined.child i y)) ∙ ap (λ l. now ++ l) (sym e)
 
-    pub twice-put : (p₂ : List ℕ) → p₁ ≡ put page at A → p₂ ≡ put p₁ to B → p₂ ≡ put page at C
-    twice-put p₂ f g =
-        let a = ap length split in let b = length-append A B in
-        g ∙ ap₂ (λ y z. put y z B) f et ∙ put-put page at A B (omega arith) ∙ ap (put page at) split
+  pub push-last : length now + length all ≤ 1016 → length now₁ + length (bytes_of (defined.child i x)) ≤ 1016
+  push-last h = let a = ap length whole in let b = length-append now₁ (bytes_of (defined.child i x)) in let c = length-append now all in omega arith
 
-    pub twice_ends : (r : ℕ) → r ≡ to + length B → r ≡ at + length C
-    twice_ends r h = let a = ap length split in let b = length-append A B in omega arith
+  pub push-behind : (now₂ : List ℕ) → now₂ ≡ now₁ ++ bytes_of (defined.child i x) → now₂ ≡ now ++ all
+  push-behind now₂ q = q ∙ whole
 
 -- A NODE, IF THERE ARE ENTRIES
 module _ (n h : ℕ) (body s : List ℕ) where
@@ -103,18 +90,6 @@ module _ (n h : ℕ) (body s : List ℕ) where
   pub told-some : (length body ≡ 0 → ⊥) → true ≡ not (eqb (length body) 0)
   told-some e = sym (ap not (ne_eqb (length body) 0 e))
 
--- THE CURSOR BEHIND SOME CHILDREN
-pub drop-next : (n : ℕ) (ks us : List Branch) (c : Branch) → 0 < n → ks ≡ c ∷ us → drop n ks ≡ drop (n - 1) us
-drop-next zero ks us c h e = absurd (omega arith)
-drop-next (suc n) ks us c h e = let z : n ≡ suc n - 1 = omega arith in ap (drop (suc n)) e ∙ ap (λ i. drop i us) z
-
-pub drop-none : (n : ℕ) (ks us : List Branch) → ks ≡ [] → drop n ks ≡ us → ks ≡ us
-drop-none n ks us e h = e ∙ sym (drop-nil n) ∙ ap (drop n) (sym e) ∙ h
-
-pub drop-zero : (n : ℕ) (ks us : List Branch) → n ≤ 0 → drop n ks ≡ us → ks ≡ us
-drop-zero zero ks us h e = e
-drop-zero (suc n) ks us h e = absurd (omega arith)
-
 -- ANSWERS
 pub told : (out out₁ out₂ lift pivot : List ℕ) → length lift + length pivot ≤ length out → out₁ ≡ put out 0 lift → out₂ ≡ put out₁ (length lift) pivot
     → take (length lift + length pivot) out₂ ≡ lift ++ pivot
@@ -127,193 +102,134 @@ told out out₁ out₂ lift pivot h a b =
     front : length (lift ++ pivot) ≡ length lift + length pivot → take (length lift + length pivot) (put out 0 (lift ++ pivot)) ≡ lift ++ pivot
     front n = unfold put in take_at (lift ++ pivot) (drop (0 + length (lift ++ pivot)) out) (length lift + length pivot) n
 
--- THE START OF THE REST
-module _ (s : List ℕ) (c : Cut) (ks us : List Branch) where
-  one_more : (n : ℕ) (rs : List Branch) → rs ≡ drop n ks → us ≡ drop 1 rs → us ≡ drop (n + 1) ks
-  one_more n rs e f = f ∙ ap (drop 1) e ∙ drop-drop 1 n ks
-
-  pub inner_start : (n i : ℕ) (p q : Place) (rs : List Branch) → c ≡ Cut.Inner n i p q → rs ≡ drop n ks → us ≡ drop 1 rs → us ≡ drop (skip_of (point_in s [] c)) ks
-  unfolding skip_of point_in
-  inner_start n i p q rs e f g = one_more n rs f g ∙ ap (λ z. drop (skip_of (point_in s [] z)) ks) (sym e)
-
-  pub last-start : (n i : ℕ) (p : Place) (rs : List Branch) → c ≡ Cut.Last n i p → rs ≡ drop n ks → us ≡ drop 1 rs → us ≡ drop (skip_of (point_in s [] c)) ks
-  unfolding skip_of point_in
-  last-start n i p rs e f g = one_more n rs f g ∙ ap (λ z. drop (skip_of (point_in s [] z)) ks) (sym e)
-
-  pub between_start : (n : ℕ) (p : Place) → c ≡ Cut.Between n p → us ≡ drop n ks → us ≡ drop (skip_of (point_in s [] c)) ks
-  unfolding skip_of point_in
-  between_start n p e f = f ∙ ap (λ z. drop (skip_of (point_in s [] z)) ks) (sym e)
-
-  pub nowhere-start : (n : ℕ) → c ≡ Cut.Nowhere n → us ≡ drop n ks → us ≡ drop (skip_of (point_in s [] c)) ks
-  unfolding skip_of point_in
-  nowhere-start n e f = f ∙ ap (λ z. drop (skip_of (point_in s [] z)) ks) (sym e)
-
--- ENTRIES OF ALL CHILDREN THAT ARE LEFT
-all-branches : (d : ℕ) (ks : List Branch) → length (all_line d ks) ≤ 1016 → branch_line d 1024 ks ≡ all_line d ks
-all-branches d ks h = line-all d 1024 ks (let a = all-long d ks in omega arith)
-
 -- TWO NODES
-module _ (size level : ℕ) (node : List ℕ) (start : Cursor) (d e : ℕ) (k : List ℕ) (below : Parts) (out : List ℕ) (at : ℕ) (free : List ℕ)
-    (pre : WideAsks size level node start d e k below out at free) (n m a b : ℕ) (en : n ≡ get_or free at 0) (em : m ≡ get_or free (at + 1) 0)
-    (ea : a ≡ fresh_in free (at + 2)) (eb : b ≡ fresh_in free (at + 2 + 1)) where
+module _ (size level : ℕ) (rks : List Branch) (hi k : List ℕ) (below : Parts) (out : List ℕ) (at : ℕ) (free : List ℕ)
+    (pre : WideAsks size level rks hi k below out at free) (a b d e : ℕ) (ea : a ≡ fresh_in free (at + 2)) (eb : b ≡ fresh_in free (at + 2 + 1)) where
   rest-number : b ≡ fresh_in free (at + 3)
   rest-number = let z : at + 2 + 1 ≡ at + 3 = omega arith in eb ∙ ap (fresh_in free) z
 
-  pub wide-rooms : (n * 1024 + 1024 ≤ size) × (m * 1024 + 1024 ≤ size)
+  pub wide-rooms : (n m : ℕ) → n ≡ get_or free at 0 → m ≡ get_or free (at + 1) 0 → (n * 1024 + 1024 ≤ size) × (m * 1024 + 1024 ≤ size)
   unfolding fresh_in
-  wide-rooms = let p = pre.room at (omega arith) in let q = pre.room (at + 1) (omega arith) in (omega arith, omega arith)
+  wide-rooms n m en em = let p = pre.room at (omega arith) in let q = pre.room (at + 1) (omega arith) in (omega arith, omega arith)
 
-  edge-line : all_line d (pieces_in a b k out below) ++ branch_line d 0 (branches_among (listed node start.at start.end))
-      ≡ all_line d (pieces_in (fresh_in free (at + 2)) (fresh_in free (at + 3)) k out below)
-  unfolding branch_line
-  edge-line = append-nil (all_line d (pieces_in a b k out below)) ∙ (λ i. all_line d (pieces_in (ea i) (rest-number i) k out below))
+  module _ (x : List ℕ) (ex : x ≡ branch_high hi rks) (ed : d ≡ length (shared k x)) where
+    d-is : d ≡ length (shared k (branch_high hi rks))
+    d-is = ed ∙ ap (λ y. length (shared k y)) ex
 
-  rest-line : all_line e (pieces_in a b k out Parts.Nothing) ++ branch_line e 1024 (branches_among (listed node start.at start.end))
-      ≡ all_line e (branches_among (listed node start.at start.end))
-  unfolding pieces_in all_line
-  rest-line = all-branches e (branches_among (listed node start.at start.end)) pre.rest_fits
+    e-is : e ≡ length (shared x hi) → e ≡ length (shared (branch_high hi rks) hi)
+    e-is ee = ee ∙ ap (λ y. length (shared y hi)) ex
 
-  pub wide-first : length (all_line d (pieces_in a b k out below) ++ branch_line d 0 (branches_among (listed node start.at start.end))) ≤ 1016
-  wide-first = let z = ap length edge-line in let f = pre.edge_fits in omega arith
+    edge-line : all_line d (pieces_in a b k out below)
+        ≡ all_line (length (shared k (branch_high hi rks))) (pieces_in (fresh_in free (at + 2)) (fresh_in free (at + 3)) k out below)
+    edge-line i = all_line (d-is i) (pieces_in (ea i) (rest-number i) k out below)
 
-  pub wide-second : length (all_line e (pieces_in a b k out Parts.Nothing) ++ branch_line e 1024 (branches_among (listed node start.at start.end))) ≤ 1016
-  wide-second = let z = ap length rest-line in let f = pre.rest_fits in omega arith
+    pub wide-first : length (all_line d (pieces_in a b k out below)) ≤ 1016
+    wide-first = let z = ap length edge-line in let f = pre.edge_fits in omega arith
 
-  pub wide-done : (s s₁ s₂ : List ℕ) → s₁ ≡ over_body n level (all_line d (pieces_in a b k out below) ++ branch_line d 0 (branches_among (listed node start.at start.end))) s
-      → s₂ ≡ over_body m level (all_line e (pieces_in a b k out Parts.Nothing) ++ branch_line e 1024 (branches_among (listed node start.at start.end))) s₁
-      → s₂ ≡ two_body (fresh_in free at) (fresh_in free (at + 1)) level d e (pieces_in (fresh_in free (at + 2)) (fresh_in free (at + 3)) k out below) (branches_among (listed node start.at start.end)) s
-  unfolding two_body fresh_in
-  wide-done s s₁ s₂ f g =
-      g ∙ (λ i. over_body (em i) level (rest-line i) ((f ∙ (λ j. over_body (en j) level (edge-line j) s)) i))
+    pub wide-second : e ≡ length (shared x hi) → length (all_line e rks) ≤ 1016
+    wide-second ee = let z = ap (λ n. length (all_line n rks)) (e-is ee) in let f = pre.rest_fits in omega arith
+
+    pub wide-done : e ≡ length (shared x hi) → (n m : ℕ) → n ≡ get_or free at 0 → m ≡ get_or free (at + 1) 0 → (bare p q s s₁ s₂ : List ℕ) → bare ≡ []
+        → p ≡ bare ++ all_line d (pieces_in a b k out below) → q ≡ bare ++ all_line e rks → s₁ ≡ over_body n level p s → s₂ ≡ over_body m level q s₁
+        → s₂ ≡ wide_body (fresh_in free at) (fresh_in free (at + 1)) level k hi (branch_high hi rks)
+        (pieces_in (fresh_in free (at + 2)) (fresh_in free (at + 3)) k out below) rks s
+    unfolding two_body wide_body fresh_in
+    wide-done ee n m en em bare p q s s₁ s₂ nil ep eq f g =
+        let y : p ≡ all_line (length (shared k (branch_high hi rks))) (pieces_in (fresh_in free (at + 2)) (fresh_in free (at + 3)) k out below) =
+        ep ∙ ap (λ l. l ++ all_line d (pieces_in a b k out below)) nil ∙ edge-line in
+        let z : q ≡ all_line (length (shared (branch_high hi rks) hi)) rks = eq ∙ ap (λ l. l ++ all_line e rks) nil ∙ ap (λ i. all_line i rks) (e-is ee) in
+        g ∙ (λ i. over_body (em i) level (z i) ((f ∙ (λ j. over_body (en j) level (y j) s)) i))
 
 -- ONE NODE
-module _ (size level : ℕ) (node : List ℕ) (start : Cursor) (hi k : List ℕ) (below : Parts) (out : List ℕ) (at : ℕ) (free : List ℕ)
-    (pre : NarrowAsks size level node start hi k below out at free) (n a b d : ℕ) (en : n ≡ get_or free at 0)
+module _ (size level : ℕ) (rks : List Branch) (hi k : List ℕ) (below : Parts) (out : List ℕ) (at : ℕ) (free : List ℕ)
+    (pre : NarrowAsks size level rks hi k below out at free) (a b d : ℕ)
     (ea : a ≡ fresh_in free (at + 1)) (eb : b ≡ fresh_in free (at + 1 + 1)) (ed : d ≡ length (shared k hi)) where
   last-number : b ≡ fresh_in free (at + 2)
   last-number = let z : at + 1 + 1 ≡ at + 2 = omega arith in eb ∙ ap (fresh_in free) z
 
-  pub narrow-room : n * 1024 + 1024 ≤ size
+  pub narrow-room : (n : ℕ) → n ≡ get_or free at 0 → n * 1024 + 1024 ≤ size
   unfolding fresh_in
-  narrow-room = let p = pre.room at (omega arith) in omega arith
+  narrow-room n en = let p = pre.room at (omega arith) in omega arith
 
-  abbrev all_pieces : List Branch
-  all_pieces = pieces_in (fresh_in free (at + 1)) (fresh_in free (at + 2)) k out below ++ branches_among (listed node start.at start.end)
-
-  pub narrow-line : all_line d (pieces_in a b k out below) ++ branch_line d 1024 (branches_among (listed node start.at start.end))
-      ≡ all_line (length (shared k hi)) (pieces_in (fresh_in free (at + 1)) (fresh_in free (at + 2)) k out below ++ branches_among (listed node start.at start.end))
+  narrow-line : all_line d (pieces_in a b k out below) ++ all_line d rks
+      ≡ all_line (length (shared k hi)) (pieces_in (fresh_in free (at + 1)) (fresh_in free (at + 2)) k out below ++ rks)
   narrow-line =
-      let q : all_line (length (shared k hi)) all_pieces
-      ≡ all_line (length (shared k hi)) (pieces_in (fresh_in free (at + 1)) (fresh_in free (at + 2)) k out below) ++ all_line (length (shared k hi)) (branches_among (listed node start.at start.end))
-      = all_append (length (shared k hi)) (pieces_in (fresh_in free (at + 1)) (fresh_in free (at + 2)) k out below) (branches_among (listed node start.at start.end)) in
-      let z = ap length q in
-      let y = length-append (all_line (length (shared k hi)) (pieces_in (fresh_in free (at + 1)) (fresh_in free (at + 2)) k out below)) (all_line (length (shared k hi)) (branches_among (listed node start.at start.end))) in
-      let f = pre.all_fit in
-      (λ i. all_line (ed i) (pieces_in (ea i) (last-number i) k out below) ++ branch_line (ed i) 1024 (branches_among (listed node start.at start.end)))
-      ∙ ap (λ l. all_line (length (shared k hi)) (pieces_in (fresh_in free (at + 1)) (fresh_in free (at + 2)) k out below) ++ l)
-      (all-branches (length (shared k hi)) (branches_among (listed node start.at start.end)) (omega arith))
-      ∙ sym q
+      sym (all_append d (pieces_in a b k out below) rks) ∙ (λ i. all_line (ed i) (pieces_in (ea i) (last-number i) k out below ++ rks))
 
-  pub narrow-fits : length (all_line d (pieces_in a b k out below) ++ branch_line d 1024 (branches_among (listed node start.at start.end))) ≤ 1016
-  narrow-fits = let z = ap length narrow-line in let f = pre.all_fit in omega arith
+  narrow-fits : length (all_line d (pieces_in a b k out below)) + length (all_line d rks) ≤ 1016
+  narrow-fits =
+      let z = ap length narrow-line in let y = length-append (all_line d (pieces_in a b k out below)) (all_line d rks) in let f = pre.all_fit in omega arith
 
-  pub narrow-done : (s s₁ : List ℕ) → s₁ ≡ over_body n level (all_line d (pieces_in a b k out below) ++ branch_line d 1024 (branches_among (listed node start.at start.end))) s
-      → s₁ ≡ over_body (fresh_in free at) level (all_line (length (shared k hi)) (pieces_in (fresh_in free (at + 1)) (fresh_in free (at + 2)) k out below ++ branches_among (listed node start.at start.end))) s
-  unfolding fresh_in
-  narrow-done s s₁ f = f ∙ (λ i. over_body (en i) level (narrow-line i) s)
+  pub narrow-first : length (all_line d (pieces_in a b k out below)) ≤ 1016
+  narrow-first = let f = narrow-fits in omega arith
 
-pub none-fits : (m : ℕ) → PartsFit m Parts.Nothing
-unfolding PartsFit
-none-fits m = tt
+  module _ (bare p : List ℕ) (nil : bare ≡ []) (ep : p ≡ bare ++ all_line d (pieces_in a b k out below)) where
+    pub narrow-second : length p + length (all_line d rks) ≤ 1016
+    narrow-second = let f = narrow-fits in let x = ap length (ep ∙ ap (λ l. l ++ all_line d (pieces_in a b k out below)) nil) in omega arith
+
+    module _ (q : List ℕ) (eq : q ≡ p ++ all_line d rks) where
+      pub narrow-page : q ≡ all_line (length (shared k hi)) (pieces_in (fresh_in free (at + 1)) (fresh_in free (at + 2)) k out below ++ rks)
+      narrow-page = eq ∙ ap (λ l. l ++ all_line d rks) (ep ∙ ap (λ l. l ++ all_line d (pieces_in a b k out below)) nil) ∙ narrow-line
+
+      pub narrow-done : (n : ℕ) → n ≡ get_or free at 0 → (s s₁ : List ℕ) → s₁ ≡ over_body n level q s
+          → s₁ ≡ over_body (fresh_in free at) level (all_line (length (shared k hi)) (pieces_in (fresh_in free (at + 1)) (fresh_in free (at + 2)) k out below ++ rks)) s
+      unfolding fresh_in
+      narrow-done n en s s₁ f = f ∙ (λ i. over_body (en i) level (narrow-page i) s)
 
 -- WHETHER THERE ARE ENTRIES
-pub one-some : (d : ℕ) (ks : List Branch) (b : Bool) (body : List ℕ) → body ≡ all_line d ks → b ≡ not (eqb (length body) 0) → b ≡ true → Parts.Edge ≡ one_node ks
+pub one-told : (d : ℕ) (ks : List Branch) (b : Bool) (body : List ℕ) → body ≡ all_line d ks → b ≡ not (eqb (length body) 0)
+    → ◌≡◌ {A = Parts} (record { edge = b; rest = None }) (one_node ks)
 unfolding one_node
-one-some d [] b body e t f =
-    let z : eqb (length body) 0 ≡ true = eq-eqb (length body) 0 (ap length e ∙ empty) in
-    let y : true ≡ false = sym f ∙ t ∙ ap not z in
-    absurd (true≢false y)
+one-told d [] b body e t = let z : b ≡ false = t ∙ ap not (eq-eqb (length body) 0 (ap length e ∙ empty)) in rw z
   where
     empty : length (all_line d []) ≡ 0
     empty = unfold all_line in refl
-one-some d (c ∷ cs) b body e t f = refl
-
-pub one_none : (d : ℕ) (ks : List Branch) (b : Bool) (body : List ℕ) → body ≡ all_line d ks → b ≡ not (eqb (length body) 0) → b ≡ false → Parts.Nothing ≡ one_node ks
-unfolding one_node
-one_none d [] b body e t f = refl
-one_none d (c ∷ cs) b body e t f =
+one-told d (c ∷ cs) b body e t =
     let a = all-long d (c ∷ cs) in
     let l = ap length e in
-    let z : eqb (length body) 0 ≡ false = ne_eqb (length body) 0 (λ q. omega arith) in
-    let y : false ≡ true = sym f ∙ t ∙ ap not z in
-    absurd (false≢true y)
+    let z : b ≡ true = t ∙ ap not (ne_eqb (length body) 0 (λ q. omega arith)) in
+    rw z
 
 -- WHAT IS TOLD OF TWO NODES
-module _ (level : ℕ) (node : List ℕ) (start : Cursor) (hi k : List ℕ) (below : Parts) (out : List ℕ) (at : ℕ) (free lift s s' : List ℕ) where
-  abbrev rks : List Branch
-  rks = branches_among (listed node start.at start.end)
-
+module _ (hi k : List ℕ) (below : Parts) (out : List ℕ) (at : ℕ) (free lift : List ℕ) where
   abbrev eks : List Branch
   eks = pieces_in (fresh_in free (at + 2)) (fresh_in free (at + 3)) k out below
 
   edge-told : (out' : List ℕ) (p : Parts) → raise_branches lift (head_branch (fresh_in free at) k (pieces_in (fresh_in free (at + 2)) (fresh_in free (at + 3)) k out p) ++ [])
       ≡ pieces_in (fresh_in free at) (fresh_in free (at + 1)) (lift ++ k) out' (edge_only p)
-  unfolding pieces_in head_branch raise_branches edge_only
-  edge-told out' Parts.Nothing = refl
-  edge-told out' Parts.Edge = refl
-  edge-told out' (Parts.Rest n) = refl
-  edge-told out' (Parts.Both n) = refl
-
-  edge-fit : (m : ℕ) (p : Parts) → PartsFit m (edge_only p)
-  unfolding PartsFit edge_only
-  edge-fit m Parts.Nothing = tt
-  edge-fit m Parts.Edge = tt
-  edge-fit m (Parts.Rest n) = tt
-  edge-fit m (Parts.Both n) = tt
+  unfolding pieces_in edge_piece rest_piece head_branch raise_branches edge_only has_any
+  edge-told out' p = go p.edge p.rest
+    where
+      go : (e : Bool) (r : Option ℕ)
+          → raise_branches lift (head_branch (fresh_in free at) k (edge_piece (fresh_in free (at + 2)) k e ++ rest_piece (fresh_in free (at + 3)) out r) ++ [])
+          ≡ edge_piece (fresh_in free at) (lift ++ k) (e || is_some r) ++ []
+      go true r = refl
+      go false None = refl
+      go false (Some n) = refl
 
   rest-told : (x out' : List ℕ) (n : ℕ) (p : Parts) → take n out' ≡ lift ++ x
       → raise_branches lift (head_branch (fresh_in free at) k (pieces_in (fresh_in free (at + 2)) (fresh_in free (at + 3)) k out p) ++ (branch (fresh_in free (at + 1)) x ∷ []))
       ≡ pieces_in (fresh_in free at) (fresh_in free (at + 1)) (lift ++ k) out' (with_rest n p)
-  unfolding pieces_in head_branch raise_branches with_rest
-  rest-told x out' n Parts.Nothing e = ap (λ l. branch (fresh_in free (at + 1)) l ∷ []) (sym e)
-  rest-told x out' n Parts.Edge e = ap (λ l. branch (fresh_in free at) (lift ++ k) ∷ (branch (fresh_in free (at + 1)) l ∷ [])) (sym e)
-  rest-told x out' n (Parts.Rest m) e = ap (λ l. branch (fresh_in free at) (lift ++ k) ∷ (branch (fresh_in free (at + 1)) l ∷ [])) (sym e)
-  rest-told x out' n (Parts.Both m) e = ap (λ l. branch (fresh_in free at) (lift ++ k) ∷ (branch (fresh_in free (at + 1)) l ∷ [])) (sym e)
+  unfolding pieces_in edge_piece rest_piece head_branch raise_branches with_rest has_any
+  rest-told x out' n p h = go p.edge p.rest
+    where
+      go : (e : Bool) (r : Option ℕ)
+          → raise_branches lift (head_branch (fresh_in free at) k (edge_piece (fresh_in free (at + 2)) k e ++ rest_piece (fresh_in free (at + 3)) out r)
+          ++ (branch (fresh_in free (at + 1)) x ∷ []))
+          ≡ edge_piece (fresh_in free at) (lift ++ k) (e || is_some r) ++ (branch (fresh_in free (at + 1)) (take n out') ∷ [])
+      go true r = ap (λ l. branch (fresh_in free at) (lift ++ k) ∷ (branch (fresh_in free (at + 1)) l ∷ [])) (sym h)
+      go false None = ap (λ l. branch (fresh_in free (at + 1)) l ∷ []) (sym h)
+      go false (Some m) = ap (λ l. branch (fresh_in free at) (lift ++ k) ∷ (branch (fresh_in free (at + 1)) l ∷ [])) (sym h)
+
+  edge-fit : (m : ℕ) (p : Parts) → PartsFit m (edge_only p)
+  unfolding edge_only
+  edge-fit m p = tt
 
   rest-fit : (m n : ℕ) (p : Parts) → n ≤ m → PartsFit m (with_rest n p)
-  unfolding PartsFit with_rest
-  rest-fit m n Parts.Nothing h = h
-  rest-fit m n Parts.Edge h = h
-  rest-fit m n (Parts.Rest i) h = h
-  rest-fit m n (Parts.Both i) h = h
+  unfolding with_rest
+  rest-fit m n p h = h
 
-  -- the pivot of the rest, or the high pivot
-  pub high-none : branches_among (listed node start.at start.end) ≡ [] → branch_high hi (branches_among (listed node start.at start.end)) ≡ hi
-  unfolding branch_high
-  high-none none = ap (branch_high hi) none
-
-  pub high-some : (c : Branch) (cs : List Branch) → branches_among (listed node start.at start.end) ≡ c ∷ cs → branch_high hi (branches_among (listed node start.at start.end)) ≡ c.pivot
-  unfolding branch_high
-  high-some c cs some = ap (branch_high hi) some
-
-  module _ (x : List ℕ) (high_is : branch_high hi (branches_among (listed node start.at start.end)) ≡ x) (d e : ℕ) (ed : d ≡ length (shared k x)) (ee : e ≡ length (shared x hi)) where
-    pub ready_at : (size : ℕ) → WideReady size level node start hi k below out at free → WideAsks size level node start d e k below out at free
-    unfolding WideReady
-    ready_at size h =
-        subst (λ i. WideAsks size level node start i e k below out at free) (sym ed)
-        (subst (λ i. WideAsks size level node start (length (shared k x)) i k below out at free) (sym ee)
-        (subst (λ y. WideAsks size level node start (length (shared k y)) (length (shared y hi)) k below out at free) high_is h))
-
-    pub body_at : s' ≡ two_body (fresh_in free at) (fresh_in free (at + 1)) level d e (pieces_in (fresh_in free (at + 2)) (fresh_in free (at + 3)) k out below) (branches_among (listed node start.at start.end)) s
-        → s' ≡ wide_body (fresh_in free at) (fresh_in free (at + 1)) level k hi (branch_high hi (branches_among (listed node start.at start.end)))
-        (pieces_in (fresh_in free (at + 2)) (fresh_in free (at + 3)) k out below) (branches_among (listed node start.at start.end)) s
-    unfolding wide_body
-    body_at w =
-        w ∙ (λ i. two_body (fresh_in free at) (fresh_in free (at + 1)) level (ed i) (ee i) eks rks s)
-        ∙ ap (λ y. two_body (fresh_in free at) (fresh_in free (at + 1)) level (length (shared k y)) (length (shared y hi)) eks rks s) (sym high_is)
-
-  -- what is told
-  both-pieces : (l : List Branch) (out' : List ℕ) (r : Parts) → both_told l below lift out' r
+  pub both-pieces : (l : List Branch) (out' : List ℕ) (r : Parts) → both_told l below lift out' r
       → (raise_branches lift (head_branch (fresh_in free at) k (pieces_in (fresh_in free (at + 2)) (fresh_in free (at + 3)) k out below) ++ head_branch (fresh_in free (at + 1)) (branch_high hi l) l)
       ≡ pieces_in (fresh_in free at) (fresh_in free (at + 1)) (lift ++ k) out' r) × PartsFit (length out') r
   unfolding both_told branch_high
@@ -333,11 +249,6 @@ module _ (level : ℕ) (node : List ℕ) (start : Cursor) (hi k : List ℕ) (bel
       a-head : head_branch (fresh_in free (at + 1)) c.pivot (c ∷ cs) ≡ branch (fresh_in free (at + 1)) c.pivot ∷ []
       a-head = unfold head_branch in refl
 
-  pub wide_both : s' ≡ wide_body (fresh_in free at) (fresh_in free (at + 1)) level k hi (branch_high hi (branches_among (listed node start.at start.end)))
-      (pieces_in (fresh_in free (at + 2)) (fresh_in free (at + 3)) k out below) (branches_among (listed node start.at start.end)) s
-      → (out' : List ℕ) (r : Parts) → both_told (branches_among (listed node start.at start.end)) below lift out' r → WideAs level node start hi k below out at free lift s s' out' r
-  wide_both w out' r told = let p = both-pieces rks out' r told in record { written = w; pieces = p.0; fit = p.1 }
-
 module _ (l : List Branch) (below : Parts) (lift out : List ℕ) (r : Parts) where
   pub told-edge : l ≡ [] → r ≡ edge_only below → both_told l below lift out r
   unfolding both_told
@@ -348,7 +259,19 @@ module _ (l : List Branch) (below : Parts) (lift out : List ℕ) (r : Parts) whe
   unfolding both_told
   told-rest c cs some e h q = subst (λ z. both_told z below lift out r) (sym some) (e, h, q)
 
-pub ready-ends : (size level : ℕ) (node : List ℕ) (start : Cursor) (hi k : List ℕ) (below : Parts) (out : List ℕ) (at : ℕ) (free : List ℕ)
-    → WideReady size level node start hi k below out at free → start.end ≤ length node
-unfolding WideReady
-ready-ends size level node start hi k below out at free h = h.ends
+pub edge-is : (p : Parts) (b : Bool) → b ≡ has_any p → ◌≡◌ {A = Parts} (record { edge = b; rest = None }) (edge_only p)
+unfolding edge_only
+edge-is p b e = λ i. record { edge = e i; rest = None }
+
+pub rest-is : (p : Parts) (n : ℕ) (b : Bool) → b ≡ has_any p → ◌≡◌ {A = Parts} (record { edge = b; rest = Some n }) (with_rest n p)
+unfolding with_rest
+rest-is p n b e = λ i. record { edge = e i; rest = Some n }
+
+-- the first child's pivot is no longer than the entries of all
+pub first-short : (l : List Branch) (c : Branch) (cs : List Branch) → l ≡ c ∷ cs → length (all_line 0 l) ≤ 1016 → length c.pivot ≤ 1016
+unfolding all_line
+first-short l c cs e h =
+    let a = ap (λ z. length (all_line 0 z)) e in
+    let b = length-append (bytes_of (defined.child c.number c.pivot)) (all_line 0 cs) in
+    let f = child-size c.number c.pivot in
+    omega arith

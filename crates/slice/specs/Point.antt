@@ -1,14 +1,14 @@
 -- Where a cut falls among the children of an interior node, and the bytes of the parts' entries. Definitions only: pivots, cut and keys are
 -- told without what the node lifts. Relies on node's lists of entries and children.
-use Rattle.std.specs.Prelude.{ℕ, zero, suc, ◌+◌, ◌≡◌, List, [], ◌∷◌, ◌++◌, Bool, true, false, not, cond, length, drop, get_or}
+use Rattle.std.specs.Prelude.{ℕ, ◌+◌, ◌≡◌, List, [], ◌∷◌, ◌++◌, Bool, cond, drop, get_or, Option, MatchOption}
 use Rattle.image.specs.Bytes.{before}
 use Rattle.image.specs.Entry as defined
-use Rattle.image.specs.Image.{Tree, Branch}
+use Rattle.image.specs.Image.{Tree}
+use Rattle.image.specs.Image as image
 use Rattle.laws.specs.Encode.{bytes_of}
 use Rattle.laws.specs.Reading.Relative.{branch_high}
-use Rattle.node.specs.Places.{part, Within}
+use Rattle.node.specs.declared.branches.Branch.{Branch}
 use Rattle.slice.specs.Slicing.SliceWrite.{left_write}
-use Rattle.slice.specs.declared.Cut.{Cut}
 
 -- the i-th number of a list of free nodes
 unfoldable pub fresh_in : List ℕ → ℕ → ℕ
@@ -20,55 +20,32 @@ pub data Point : Type 0 where
   between : ℕ → List ℕ → Point
   nowhere : ℕ → Point
 
-unfoldable pub point_of : ℕ → List Branch → List ℕ → List ℕ → Point
+unfoldable pub point_of : ℕ → List image.Branch → List ℕ → List ℕ → Point
 point_of n [] hi k = nowhere n
 point_of n (c ∷ cs) hi k =
     cond (before k (branch_high hi cs))
     (cond (before c.pivot k) (within n c.number c.pivot (branch_high hi cs)) (between n c.pivot))
     (point_of (n + 1) cs hi k)
 
--- how many children end at the cut or before it
-unfoldable pub count_of : Point → ℕ
-count_of (within n i low high) = n
-count_of (between n low) = n
-count_of (nowhere n) = n
+-- the child that a cut falls strictly inside of, if there is one
+pub record Holds (x : Point) (b : Branch) : Type 0 where
+  pub count : ℕ
+  pub is : x ≡ within count b.number b.low.now b.high.now
 
-unfoldable pub wholes : List Branch → List ℕ → List ℕ → ℕ
-wholes [] hi k = 0
-wholes (c ∷ cs) hi k = cond (before k (branch_high hi cs)) 0 (suc (wholes cs hi k))
+unfoldable pub Misses : Point → Type 0
+Misses (within n i low high) = ⊥
+Misses (between n low) = Unit
+Misses (nowhere n) = Unit
 
--- what the code answers
-unfoldable pub point_in : List ℕ → List ℕ → Cut → Point
-point_in s hi (Cut.Inner n i p q) = within n i (part s p) (part s q)
-point_in s hi (Cut.Last n i p) = within n i (part s p) hi
-point_in s hi (Cut.Between n p) = between n (part s p)
-point_in s hi (Cut.Nowhere n) = nowhere n
+abbrev pub Held : Point → Option Branch → Type 0
+Held x r = MatchOption r (Misses x) (λ b. Holds x b)
 
-unfoldable pub CutFits : ℕ → Cut → Type 0
-CutFits m (Cut.Inner n i p q) = Within 0 m p × Within 0 m q
-CutFits m (Cut.Last n i p) = Within 0 m p
-CutFits m (Cut.Between n p) = Within 0 m p
-CutFits m (Cut.Nowhere n) = Unit
-
-pub record CutAs (s hi : List ℕ) (x : Point) (r : Cut) : Type 0 where
-  pub meant : point_in s hi r ≡ x
-  pub fits : CutFits (length s) r
-
--- the entries of the first n children, each pivot without its first d bytes
-unfoldable pub branch_line : ℕ → ℕ → List Branch → List ℕ
-branch_line d zero ks = []
-branch_line d (suc n) [] = []
-branch_line d (suc n) (k ∷ ks) = bytes_of (defined.child k.number (drop d k.pivot)) ++ branch_line d n ks
-
--- the entry of the child that holds the cut, under its new number
-unfoldable pub cut_line : ℕ → ℕ → Point → List ℕ
-cut_line d m (within n i low high) = bytes_of (defined.child m (drop d low))
-cut_line d m (between n low) = []
-cut_line d m (nowhere n) = []
-
--- the entries of the part before the cut
-unfoldable pub left_line : ℕ → ℕ → List Branch → Point → List ℕ
-left_line d m ks x = branch_line d (count_of x) ks ++ cut_line d m x
+-- the entries of the part before the cut, each pivot without its first d bytes: the child that holds the cut stands there under its new number
+unfoldable pub before_line : ℕ → ℕ → List image.Branch → List ℕ → List ℕ → List ℕ
+before_line d m [] hi k = []
+before_line d m (c ∷ cs) hi k =
+    cond (before k (branch_high hi cs)) (cond (before c.pivot k) (bytes_of (defined.child m (drop d c.pivot))) [])
+    (bytes_of (defined.child c.number (drop d c.pivot)) ++ before_line d m cs hi k)
 
 -- the part of that child, written
 unfoldable pub left_at : (ℕ → ℕ) → (ℕ → Tree) → ℕ → List ℕ → ℕ → List ℕ → Point → List ℕ
@@ -76,13 +53,9 @@ left_at fresh under h k at s (within n i low high) = left_write fresh (under i) 
 left_at fresh under h k at s (between n low) = s
 left_at fresh under h k at s (nowhere n) = s
 
--- which keys lie on a side of the cut, and the entries of the pairs there, each key without its first d bytes
-unfoldable pub on_side : Bool → List ℕ → List ℕ → Bool
-on_side true k q = before q k
-on_side false k q = not (before q k)
-
-unfoldable pub side_line : Bool → List ℕ → ℕ → List defined.Entry → List ℕ
-side_line left k d [] = []
-side_line left k d (defined.pair q v ∷ es) = cond (on_side left k q) (bytes_of (defined.pair (drop d q) v) ++ side_line left k d es) (side_line left k d es)
-side_line left k d (defined.child i q ∷ es) = side_line left k d es
-side_line left k d (defined.message m ∷ es) = side_line left k d es
+-- the entries of the pairs whose keys pass a test, each key without its first d bytes
+unfoldable pub side_line : (List ℕ → Bool) → ℕ → List defined.Entry → List ℕ
+side_line test d [] = []
+side_line test d (defined.pair q v ∷ es) = cond (test q) (bytes_of (defined.pair (drop d q) v) ++ side_line test d es) (side_line test d es)
+side_line test d (defined.child i q ∷ es) = side_line test d es
+side_line test d (defined.message m ∷ es) = side_line test d es

@@ -1,6 +1,6 @@
 -- The part of a node from a cut on, by the point where the cut falls: its pieces, which are at most two, and the entries of their pages.
 -- Definitions only.
-use Rattle.std.specs.Prelude.{ℕ, ◌+◌, ◌*◌, ◌<◌, ◌≤◌, ◌≡◌, List, [], ◌∷◌, ◌++◌, Bool, true, cond, length, take, drop, eqb}
+use Rattle.std.specs.Prelude.{ℕ, ◌+◌, ◌*◌, ◌<◌, ◌≤◌, ◌≡◌, List, [], ◌∷◌, ◌++◌, Bool, true, false, ◌||◌, cond, length, take, drop, eqb, Option, None, Some, is_some, MatchOption}
 use Rattle.image.specs.Bytes.{before, shared}
 use Rattle.image.specs.Entry as defined
 use Rattle.image.specs.Image.{Tree, Forest, end, Branch, nodes_of, tree_at}
@@ -8,9 +8,7 @@ use Rattle.laws.specs.Encode.{bytes_of}
 use Rattle.laws.specs.Page.{page, branches_of}
 use Rattle.laws.specs.WriteNode.{write_node}
 use Rattle.laws.specs.Reading.Relative.{branch_high, usable}
-use Rattle.node.specs.Entries.{listed}
-use Rattle.node.specs.declared.Cursor.{Cursor}
-use Rattle.node.specs.Search.Own.{branch, branches_among}
+use Rattle.node.specs.Search.Own.{branch}
 use Rattle.push.specs.Laws.Written.{small_numbers}
 use Rattle.slice.specs.Slicing.Slice.{right_of}
 use Rattle.slice.specs.Slicing.SliceFits.{fits_in}
@@ -18,12 +16,7 @@ use Rattle.slice.specs.Slicing.RightWrite.{right_write}
 use Rattle.slice.specs.declared.Parts.{Parts}
 use Rattle.slice.specs.Point.{Point, within, between, nowhere, fresh_in}
 
--- the children from the cut on, but for the one that holds it, and how many stand before them
-unfoldable pub skip_of : Point → ℕ
-skip_of (within n i low high) = n + 1
-skip_of (between n low) = n
-skip_of (nowhere n) = n
-
+-- the children from the cut on, but for the one that holds it
 unfoldable pub rest_of : List Branch → List ℕ → List ℕ → List Branch
 rest_of [] hi k = []
 rest_of (c ∷ cs) hi k = cond (before k (branch_high hi cs)) (cond (before c.pivot k) cs (c ∷ cs)) (rest_of cs hi k)
@@ -40,17 +33,25 @@ right_at fresh w under h k at s (between n low) = s
 right_at fresh w under h k at s (nowhere n) = s
 
 -- what the code answers: the pieces with the first two numbers from `at` on, the pivot of the second in a buffer
-unfoldable pub pieces_in : ℕ → ℕ → List ℕ → List ℕ → Parts → List Branch
-pieces_in a b k out Parts.Nothing = []
-pieces_in a b k out Parts.Edge = branch a k ∷ []
-pieces_in a b k out (Parts.Rest n) = branch b (take n out) ∷ []
-pieces_in a b k out (Parts.Both n) = branch a k ∷ (branch b (take n out) ∷ [])
+unfoldable pub edge_piece : ℕ → List ℕ → Bool → List Branch
+edge_piece a k true = branch a k ∷ []
+edge_piece a k false = []
 
-unfoldable pub PartsFit : ℕ → Parts → Type 0
-PartsFit m Parts.Nothing = Unit
-PartsFit m Parts.Edge = Unit
-PartsFit m (Parts.Rest n) = n ≤ m
-PartsFit m (Parts.Both n) = n ≤ m
+unfoldable pub rest_piece : ℕ → List ℕ → Option ℕ → List Branch
+rest_piece b out None = []
+rest_piece b out (Some n) = branch b (take n out) ∷ []
+
+unfoldable pub pieces_in : ℕ → ℕ → List ℕ → List ℕ → Parts → List Branch
+pieces_in a b k out p = edge_piece a k p.edge ++ rest_piece b out p.rest
+
+abbrev pub PartsFit : ℕ → Parts → Type 0
+PartsFit m p = MatchOption p.rest Unit (λ n. n ≤ m)
+
+abbrev pub no_parts : Parts
+no_parts = record { edge = false; rest = None }
+
+abbrev pub edge_part : Parts
+edge_part = record { edge = true; rest = None }
 
 unfoldable pub raise_branches : List ℕ → List Branch → List Branch
 raise_branches l [] = []
@@ -73,18 +74,15 @@ two_body n m h d e eks rks s = over_body m h (all_line e rks) (over_body n h (al
 unfoldable pub wide_body : ℕ → ℕ → ℕ → List ℕ → List ℕ → List ℕ → List Branch → List Branch → List ℕ → List ℕ
 wide_body n m h k hi x eks rks s = two_body n m h (length (shared k x)) (length (shared x hi)) eks rks s
 
--- the answer of a node, by that of its child, with a rest and without
+-- whether there are pieces, and the answer of a node, by that of its child, with a rest and without
+unfoldable pub has_any : Parts → Bool
+has_any p = p.edge || is_some p.rest
+
 unfoldable pub with_rest : ℕ → Parts → Parts
-with_rest n Parts.Nothing = Parts.Rest n
-with_rest n Parts.Edge = Parts.Both n
-with_rest n (Parts.Rest m) = Parts.Both n
-with_rest n (Parts.Both m) = Parts.Both n
+with_rest n p = record { edge = has_any p; rest = Some n }
 
 unfoldable pub edge_only : Parts → Parts
-edge_only Parts.Nothing = Parts.Nothing
-edge_only Parts.Edge = Parts.Edge
-edge_only (Parts.Rest m) = Parts.Edge
-edge_only (Parts.Both m) = Parts.Edge
+edge_only p = record { edge = has_any p; rest = None }
 
 -- what is told of an edge and of a rest over these children: without a rest, and with one, whose pivot is in the buffer
 unfoldable pub both_told : List Branch → Parts → List ℕ → List ℕ → Parts → Type 0
@@ -95,8 +93,8 @@ both_told (c ∷ cs) below lift out r =
 
 -- the one piece of a node over these children
 unfoldable pub one_node : List Branch → Parts
-one_node [] = Parts.Nothing
-one_node (c ∷ cs) = Parts.Edge
+one_node [] = no_parts
+one_node (c ∷ cs) = edge_part
 
 unfoldable pub head_branch : ℕ → List ℕ → List Branch → List Branch
 head_branch n lo [] = []
@@ -112,11 +110,6 @@ pub record RightAsks (w : Bool) (s : List ℕ) (num level : ℕ) (lo hi k : List
   pub enough : at + 2 * level ≤ length free
   pub room : (i : ℕ) → i < at + 2 * level → fresh_in free i * 1024 + 1024 ≤ length s
 
-unfoldable pub PointAsksRight : Bool → List ℕ → ℕ → List ℕ → ℕ → List ℕ → Point → Type 0
-PointAsksRight w s level k at free (within n i low high) = RightAsks w s i level low high k at free
-PointAsksRight w s level k at free (between n low) = Unit
-PointAsksRight w s level k at free (nowhere n) = Unit
-
 -- a right part written, and its pieces told
 pub record RightAs (w : Bool) (t : Tree) (level : ℕ) (lo hi k : List ℕ) (at : ℕ) (free lift s s' out : List ℕ) (r : Parts) : Type 0 where
   pub written : s' ≡ right_write (fresh_in free) w t level lo hi k at s
@@ -128,36 +121,20 @@ pub record EdgeAs (w : Bool) (level : ℕ) (k : List ℕ) (at : ℕ) (free s s' 
   pub pieces : branches_of (edge_at (fresh_in free) w (λ j. tree_at level s j) k at x) ≡ pieces_in (fresh_in free at) (fresh_in free (at + 1)) k out r
   pub fit : PartsFit (length out) r
 
--- what the two nodes of a level ask, and the one
-pub record WideAsks (size level : ℕ) (node : List ℕ) (start : Cursor) (d e : ℕ) (k : List ℕ) (below : Parts) (out : List ℕ) (at : ℕ) (free : List ℕ) : Type 0 where
+-- what the two nodes of a level ask, whose children from the cut on are rks, and the one
+pub record WideAsks (size level : ℕ) (rks : List Branch) (hi k : List ℕ) (below : Parts) (out : List ℕ) (at : ℕ) (free : List ℕ) : Type 0 where
   pub levels : level ≤ 8
   pub enough : at + 4 ≤ length free
   pub room : (i : ℕ) → i < at + 4 → fresh_in free i * 1024 + 1024 ≤ size
   pub fit : PartsFit (length out) below
-  pub ends : start.end ≤ length node
-  pub numbers : small_numbers (branches_among (listed node start.at start.end)) ≡ true
-  pub edge_fits : length (all_line d (pieces_in (fresh_in free (at + 2)) (fresh_in free (at + 3)) k out below)) ≤ 1016
-  pub rest_fits : length (all_line e (branches_among (listed node start.at start.end))) ≤ 1016
+  pub numbers : small_numbers rks ≡ true
+  pub edge_fits : length (all_line (length (shared k (branch_high hi rks))) (pieces_in (fresh_in free (at + 2)) (fresh_in free (at + 3)) k out below)) ≤ 1016
+  pub rest_fits : length (all_line (length (shared (branch_high hi rks) hi)) rks) ≤ 1016
 
-pub record NarrowAsks (size level : ℕ) (node : List ℕ) (start : Cursor) (hi k : List ℕ) (below : Parts) (out : List ℕ) (at : ℕ) (free : List ℕ) : Type 0 where
+pub record NarrowAsks (size level : ℕ) (rks : List Branch) (hi k : List ℕ) (below : Parts) (out : List ℕ) (at : ℕ) (free : List ℕ) : Type 0 where
   pub levels : level ≤ 8
   pub enough : at + 3 ≤ length free
   pub room : (i : ℕ) → i < at + 3 → fresh_in free i * 1024 + 1024 ≤ size
   pub fit : PartsFit (length out) below
-  pub ends : start.end ≤ length node
-  pub numbers : small_numbers (branches_among (listed node start.at start.end)) ≡ true
-  pub all_fit : length (all_line (length (shared k hi)) (pieces_in (fresh_in free (at + 1)) (fresh_in free (at + 2)) k out below ++ branches_among (listed node start.at start.end))) ≤ 1016
-
--- the same with the rest's own pivot, and what is done then
-unfoldable pub WideReady : ℕ → ℕ → List ℕ → Cursor → List ℕ → List ℕ → Parts → List ℕ → ℕ → List ℕ → Type 0
-WideReady size level node start hi k below out at free =
-    WideAsks size level node start (length (shared k (branch_high hi (branches_among (listed node start.at start.end)))))
-    (length (shared (branch_high hi (branches_among (listed node start.at start.end))) hi)) k below out at free
-
-pub record WideAs (level : ℕ) (node : List ℕ) (start : Cursor) (hi k : List ℕ) (below : Parts) (out : List ℕ) (at : ℕ) (free lift s s' out' : List ℕ) (r : Parts) : Type 0 where
-  pub written : s' ≡ wide_body (fresh_in free at) (fresh_in free (at + 1)) level k hi (branch_high hi (branches_among (listed node start.at start.end)))
-      (pieces_in (fresh_in free (at + 2)) (fresh_in free (at + 3)) k out below) (branches_among (listed node start.at start.end)) s
-  pub pieces : raise_branches lift (head_branch (fresh_in free at) k (pieces_in (fresh_in free (at + 2)) (fresh_in free (at + 3)) k out below)
-      ++ head_branch (fresh_in free (at + 1)) (branch_high hi (branches_among (listed node start.at start.end))) (branches_among (listed node start.at start.end)))
-      ≡ pieces_in (fresh_in free at) (fresh_in free (at + 1)) (lift ++ k) out' r
-  pub fit : PartsFit (length out') r
+  pub numbers : small_numbers rks ≡ true
+  pub all_fit : length (all_line (length (shared k hi)) (pieces_in (fresh_in free (at + 1)) (fresh_in free (at + 2)) k out below ++ rks)) ≤ 1016

@@ -1,5 +1,5 @@
 -- The right parts of a node over its children as they are read. Relies on Slicing (edge_in, rest_in, edge_write, over_write).
-use Rattle.std.specs.Prelude.{ℕ, zero, suc, ◌+◌, ◌*◌, ◌≤◌, ◌≡◌, refl, List, [], ◌∷◌, ◌++◌, Bool, true, false, ◌&&◌, cond, length, drop, leb}
+use Rattle.std.specs.Prelude.{ℕ, ◌+◌, ◌*◌, ◌≤◌, ◌≡◌, refl, List, [], ◌∷◌, ◌++◌, Bool, true, ◌&&◌, cond, length, drop, leb, ltb}
 use Rattle.image.specs.Prelude.{sym, ap, ap₂, ◌∙◌, append_assoc, arith, length-append, leb-true, ne_eqb, cases}
 use Rattle.image.specs.Bytes.{before, shared}
 use Rattle.image.specs.Entry as defined
@@ -15,37 +15,13 @@ use Rattle.slice.specs.Slicing.SliceFits.{branches_size, short_in, fits, fits_in
 use Rattle.slice.specs.Slicing.ReadBack.{branches-size}
 use Rattle.slice.specs.Slicing.SliceWrite.{page_of}
 use Rattle.slice.specs.Slicing.RightWrite.{over_write, edge_write}
-use Rattle.node.specs.Search.Own.{branch}
-use Rattle.slice.specs.Point.{within, between, point_of, branch_line}
-use Rattle.slice.specs.Right.{skip_of, rest_of, edge_at, right_at, raise_branches, all_line, over_body}
+use Rattle.node.specs.Search.Own.{branch, branches_among}
+use Rattle.push.specs.Laws.Written.{small_numbers}
+use Rattle.slice.specs.Point.{point_of}
+use Rattle.slice.specs.Right.{rest_of, edge_at, right_at, raise_branches, all_line, over_body}
 
 -- THE REST
 module _ (hi k : List ℕ) where
-  pub rest-skip : (n : ℕ) (ks : List Branch) → (j : ℕ) → skip_of (point_of n ks hi k) ≡ n + j → rest_of ks hi k ≡ drop j ks
-  unfolding point_of skip_of rest_of
-  rest-skip n [] zero e = refl
-  rest-skip n [] (suc j) e = refl
-  rest-skip n (c ∷ cs) j e = go (before k (branch_high hi cs)) refl (before c.pivot k) refl j e (rest-skip (n + 1) cs)
-    where
-      go : (x : Bool) → before k (branch_high hi cs) ≡ x → (y : Bool) → before c.pivot k ≡ y → (j : ℕ) → skip_of (point_of n (c ∷ cs) hi k) ≡ n + j
-          → ((i : ℕ) → skip_of (point_of (n + 1) cs hi k) ≡ n + 1 + i → rest_of cs hi k ≡ drop i cs) → rest_of (c ∷ cs) hi k ≡ drop j (c ∷ cs)
-      go true a true b zero e ih = let z : n + 1 ≡ n + 0 = rw (a, b) at e in absurd (omega arith)
-      go true a true b (suc j) e ih = let z : n + 1 ≡ n + suc j = rw (a, b) at e in let y : 0 ≡ j = omega arith in rw (a, b) (ap (λ i. drop i cs) y)
-      go true a false b zero e ih = rw (a, b)
-      go true a false b (suc j) e ih = let z : n ≡ n + suc j = rw (a, b) at e in absurd (omega arith)
-      go false a y b zero e ih = let z : skip_of (point_of (n + 1) cs hi k) ≡ n + 0 = rw a at e in let q = skip-most (n + 1) cs in absurd (omega arith)
-        where
-          skip-most : (m : ℕ) (us : List Branch) → m ≤ skip_of (point_of m us hi k)
-          skip-most m [] = omega arith
-          skip-most m (u ∷ us) = step (before k (branch_high hi us)) (before u.pivot k) (skip-most (m + 1) us)
-            where
-              step : (x y : Bool) → m + 1 ≤ skip_of (point_of (m + 1) us hi k)
-                  → m ≤ skip_of (cond x (cond y (within m u.number u.pivot (branch_high hi us)) (between m u.pivot)) (point_of (m + 1) us hi k))
-              step true true h = omega arith
-              step true false h = omega arith
-              step false y h = omega arith
-      go false a y b (suc j) e ih = let z : skip_of (point_of (n + 1) cs hi k) ≡ n + suc j = rw a at e in rw a (ih j (omega arith))
-
   raise-none : (f : Forest) → raise [] f ≡ f
   unfolding raise
   raise-none end = refl
@@ -117,12 +93,35 @@ all-long d (c ∷ cs) =
     let e = all-long d cs in
     omega arith
 
-pub line-all : (d n : ℕ) (ks : List Branch) → length ks ≤ n → branch_line d n ks ≡ all_line d ks
-unfolding branch_line all_line
-line-all d zero [] h = refl
-line-all d zero (c ∷ cs) h = absurd (omega arith)
-line-all d (suc n) [] h = refl
-line-all d (suc n) (c ∷ cs) h = ap (λ r. bytes_of (defined.child c.number (drop d c.pivot)) ++ r) (line-all d n cs (omega arith))
+-- children among entries are no longer than these, and those from a cut on no longer than all
+pub among-short : (es : List defined.Entry) → length (all_line 0 (branches_among es)) ≤ length (bytes_of_all es)
+unfolding all_line branches_among bytes_of_all
+among-short [] = omega arith
+among-short (defined.pair k v ∷ es) = omega arith
+among-short (defined.message m ∷ es) = omega arith
+among-short (defined.child i k ∷ es) =
+    let a = length-append (bytes_of (defined.child i k)) (all_line 0 (branches_among es)) in
+    let b = length-append (bytes_of (defined.child i k)) (bytes_of_all es) in
+    let e = among-short es in
+    omega arith
+
+pub rest-short : (hi k : List ℕ) (ks : List Branch) → length (all_line 0 (rest_of ks hi k)) ≤ length (all_line 0 ks)
+unfolding all_line rest_of
+rest-short hi k [] = omega arith
+rest-short hi k (c ∷ cs) =
+    let a = length-append (bytes_of (defined.child c.number c.pivot)) (all_line 0 cs) in
+    let e = rest-short hi k cs in
+    cases (before k (branch_high hi cs))
+    (λ x. cases (before c.pivot k) (λ y. rw (x, y) (omega arith)) (λ y. rw (x, y) (omega arith)))
+    (λ x. rw x (omega arith))
+
+pub rest-small : (hi k : List ℕ) (ks : List Branch) → small_numbers ks ≡ true → small_numbers (rest_of ks hi k) ≡ true
+unfolding rest_of small_numbers
+rest-small hi k [] e = refl
+rest-small hi k (c ∷ cs) e =
+    cases (before k (branch_high hi cs))
+    (λ x. cases (before c.pivot k) (λ y. rw (x, y) (and_right (ltb c.number 65536) _ e)) (λ y. rw (x, y) e))
+    (λ x. rw x (rest-small hi k cs (and_right (ltb c.number 65536) _ e)))
 
 -- A NODE OVER PIECES, BY ITS ENTRIES
 pub over-body : (n h : ℕ) (lo hi : List ℕ) (g : Forest) (s : List ℕ) → over_write n h lo hi g s ≡ over_body n h (all_line (length (shared lo hi)) (branches_of g)) s

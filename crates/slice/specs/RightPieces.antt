@@ -1,6 +1,6 @@
 -- The pieces of the right part as children of a node: over one node or two, which fit where the whole fits, and what is known of the child
 -- that holds the cut. Relies on RightLaws.
-use Rattle.std.specs.Prelude.{ℕ, zero, suc, ◌+◌, ◌≤◌, ◌≡◌, refl, List, [], ◌∷◌, ◌++◌, true, false, length, drop, ltb}
+use Rattle.std.specs.Prelude.{ℕ, ◌+◌, ◌≤◌, ◌≡◌, refl, List, [], ◌∷◌, ◌++◌, true, false, length}
 use Rattle.image.specs.Prelude.{ap, ap₂, ◌∙◌, arith, cases}
 use Rattle.image.specs.Bytes.{before, shared}
 use Rattle.image.specs.Image.{Tree, Forest, end, tree, Branch, forest_of}
@@ -12,10 +12,8 @@ use Rattle.laws.specs.Reading.Relative.{branch_high, usable, usable_in}
 use Rattle.slice.specs.Slicing.Slice.{packed}
 use Rattle.slice.specs.Slicing.SliceFits.{fits_in}
 use Rattle.slice.specs.Slicing.RightWrite.{over_write, packed_write, fits-parts}
-use Rattle.push.specs.Laws.Written.{small_numbers}
-use Rattle.slice.specs.declared.Cut.{Cut}
-use Rattle.slice.specs.Point.{Point, within, between, nowhere, point_of, point_in}
-use Rattle.slice.specs.Right.{skip_of, pieces_in, PartsFit, raise_branches, all_line, over_body, two_body, wide_body, one_node, head_branch}
+use Rattle.slice.specs.Point.{Point, within, between, nowhere, point_of}
+use Rattle.slice.specs.Right.{edge_piece, rest_piece, pieces_in, PartsFit, raise_branches, all_line, over_body, two_body, wide_body, one_node, head_branch}
 use Rattle.slice.specs.RightLaws.{branches-joined, over-body, over-fits}
 
 -- CHILDREN OF A PIECE
@@ -64,28 +62,14 @@ write-narrow-is h n m k hi e r s =
     over-body n h k hi (joined e r) s ∙ ap (λ q. over_body n h (all_line (length (shared k hi)) q) s) (branches-joined e r)
 
 pub one_told : (n m : ℕ) (lift k out : List ℕ) (ks : List Branch) → raise_branches lift (head_branch n k ks) ≡ pieces_in n m (lift ++ k) out (one_node ks)
-unfolding head_branch raise_branches pieces_in one_node
+unfolding head_branch raise_branches pieces_in edge_piece rest_piece one_node
 one_told n m lift k out [] = refl
 one_told n m lift k out (c ∷ cs) = refl
 
 pub one-fit : (m : ℕ) (ks : List Branch) → PartsFit m (one_node ks)
-unfolding PartsFit one_node
+unfolding one_node
 one-fit m [] = tt
 one-fit m (c ∷ cs) = tt
-
-pub small-drop : (n : ℕ) (ks : List Branch) → small_numbers ks ≡ true → small_numbers (drop n ks) ≡ true
-unfolding small_numbers
-small-drop zero ks e = e
-small-drop (suc n) [] e = refl
-small-drop (suc n) (c ∷ cs) e = small-drop n cs (and_right (ltb c.number 65536) _ e)
-
--- the point does not matter but for the high pivot
-pub skip-high : (s hi : List ℕ) (c : Cut) → skip_of (point_in s [] c) ≡ skip_of (point_in s hi c)
-unfolding skip_of point_in
-skip-high s hi (Cut.Inner n i p q) = refl
-skip-high s hi (Cut.Last n i p) = refl
-skip-high s hi (Cut.Between n p) = refl
-skip-high s hi (Cut.Nowhere n) = refl
 
 -- THE CHILD THAT HOLDS THE CUT
 unfoldable pub PointIs : (ℕ → Tree) → ℕ → List ℕ → Point → Type 0

@@ -1,10 +1,10 @@
 -- Step lemmas of the right part: what is composed of a leaf and of an interior node, what the child that holds the cut is asked, and that
 -- the pages written are those of `right_write`. Relies on RightPieces, RightLaws and on specs/Slicing's laws of stripped pivots.
 use Rattle.std.specs.Prelude.{ℕ, zero, suc, ◌+◌, ◌*◌, ◌-◌, ◌≤◌, ◌≡◌, refl, List, [], ◌∷◌, ◌++◌, Bool, true, false, ◌&&◌, length, take, drop, leb, get_or}
-use Rattle.image.specs.Prelude.{sym, ap, ap₂, subst, ◌∙◌, false≢true, arith, length-append, take-append_seam, leb-true}
+use Rattle.image.specs.Prelude.{sym, ap, ap₂, subst, ◌∙◌, false≢true, arith, length-append, take-append_seam, leb-true, cases}
 use Rattle.image.specs.Bytes.{u16, before, shared}
 use Rattle.image.specs.Table.{Row, under_prefix}
-use Rattle.image.specs.Image.{Tree, unread, leaf, interior, Forest, end, tree, Branch, nodes_of, node_bytes, tree_at, forest_of}
+use Rattle.image.specs.Image.{Tree, unread, leaf, interior, Forest, end, tree, Branch, nodes_of, tree_at, forest_of}
 use Rattle.image.specs.Meaning.{high_of}
 use Rattle.octets.specs.Order.{and_left, before-append}
 use Rattle.laws.specs.Encode.{bytes_of_all}
@@ -12,7 +12,11 @@ use Rattle.laws.specs.Filter.{keep, since, lower_rows}
 use Rattle.laws.specs.Pieces.{raise}
 use Rattle.laws.specs.Page.{page, number_of, pair_entries, branches_of, number_read}
 use Rattle.laws.specs.WriteNode.{write_node}
-use Rattle.laws.specs.Reading.Relative.{branch_high, high-at, usable_in}
+use Rattle.laws.specs.Reading.Relative.{branch_high, high-at, usable, usable_in}
+use Rattle.laws.specs.Upkeep.Size.{size_of}
+use Rattle.image.specs.Entry as defined
+use Rattle.node.specs.declared.branches.Branch as child
+use Rattle.push.specs.Laws.LeafRoom.{listing-size}
 use Rattle.slice.specs.Slicing.Slice.{rest_in, packed, after, right_of, edge_in}
 use Rattle.slice.specs.Slicing.SliceFits.{pairs_size, fits, fits_in, fits-raise}
 use Rattle.slice.specs.Slicing.ReadBack.{pairs-size}
@@ -20,21 +24,18 @@ use Rattle.slice.specs.Slicing.SliceStrip.{under_none, split-low, split-high, sp
 use Rattle.slice.specs.Slicing.SliceWrite.{page_of}
 use Rattle.slice.specs.Slicing.RightWrite.{packed_write, right_write, edge_write}
 use Rattle.slice.specs.Slicing.WriteStrip.{right-write-strip}
-use Rattle.node.specs.Entries.{listed}
-use Rattle.node.specs.Places.{part}
-use Rattle.node.specs.declared.Place.{Place}
-use Rattle.node.specs.declared.Cursor.{Cursor}
 use Rattle.node.specs.Search.Own.{branches_among}
-use Rattle.lookup.specs.Look.{listing, LeafAt, InteriorAt, leaf-at, interior-at, node-inside, inside-splits}
+use Rattle.lookup.specs.Look.{part-rest, listing, LeafAt, InteriorAt, leaf-at, interior-at, node-inside, inside-splits}
 use Rattle.push.specs.Laws.Written.{small_numbers}
-use Rattle.slice.specs.declared.Cut.{Cut}
 use Rattle.slice.specs.declared.Parts.{Parts}
-use Rattle.slice.specs.Point.{Point, within, between, nowhere, fresh_in, point_of, point_in, CutAs, on_side, side_line}
+use Rattle.slice.specs.Point.{Point, within, between, nowhere, fresh_in, point_of, Holds, Misses, side_line}
 use Rattle.slice.specs.PointLaws.{side-line}
-use Rattle.slice.specs.Right.{skip_of, rest_of, edge_at, right_at, pieces_in, PartsFit, raise_branches, all_line, over_body, wide_body, one_node, head_branch, RightAsks, PointAsksRight, RightAs, EdgeAs, NarrowAsks, WideReady, WideAs}
-use Rattle.slice.specs.RightLaws.{rest-skip, rest-is, edge-is, edge-write, branches-raise, branches-forest}
-use Rattle.slice.specs.RightPieces.{packed-wide, packed-narrow, wide_fits, narrow-fits, write-wide-is, write-narrow-is, one_told, one-fit, small-drop, skip-high, PointIs, point-is}
-use Rattle.slice.specs.LeftSteps.{small-branches, some_level, one-level, node_lists, node-short}
+use Rattle.slice.specs.Left.{from}
+use Rattle.slice.specs.Right.{rest_of, edge_at, right_at, edge_piece, rest_piece, pieces_in, no_parts, edge_part, PartsFit, raise_branches, all_line, over_body, wide_body, both_told, one_node, head_branch, RightAsks, RightAs, EdgeAs, WideAsks, NarrowAsks}
+use Rattle.slice.specs.PieceSteps.{both-pieces}
+use Rattle.slice.specs.RightLaws.{rest-is, edge-is, edge-write, branches-raise, branches-forest, among-short, rest-short, rest-small}
+use Rattle.slice.specs.RightPieces.{packed-wide, packed-narrow, wide_fits, narrow-fits, write-wide-is, write-narrow-is, one_told, one-fit, PointIs, point-is}
+use Rattle.slice.specs.LeftSteps.{small-branches, some_level, one-level}
 use Rattle.octets.specs.Beginnings.{strip-shared}
 
 pub after-wide : (w : Bool) (at : ℕ) → w ≡ true → after w at ≡ at + 2
@@ -57,13 +58,7 @@ module _ (w : Bool) (s : List ℕ) (num level : ℕ) (lo hi k : List ℕ) (at : 
   unfolding fresh_in
   right_new new e = let r = pre.room at (let a = right-level in omega arith) in omega arith
 
-  module _ (bare : shared lo hi ≡ []) (node' : List ℕ) (en : node' ≡ node_bytes s num) (len : ℕ) (el : len ≡ u16 node' 0) where
-    pub right_short : len ≤ 1016
-    right_short = node-short s num level pre.reads node' en len el
-
-    lists : listed node' 8 (8 + len) ≡ listing s num
-    lists = node_lists s num level pre.reads node' en len el
-
+  module _ (bare : shared lo hi ≡ []) (es : List defined.Entry) (lists : es ≡ listing s num) where
     -- a leaf
     module _ (leafy : level ≤ 1) (d : ℕ) (ed : d ≡ length (shared k hi)) where
       leaf' : LeafAt s num level
@@ -75,20 +70,18 @@ module _ (w : Bool) (s : List ℕ) (num level : ℕ) (lo hi k : List ℕ) (at : 
       part-is : right_of (fresh_in free) w (tree_at level s num) lo hi k at ≡ tree k (leaf (fresh_in free at) kept) end
       part-is = ap (λ t. right_of (fresh_in free) w t lo hi k at) leaf'.tree ∙ right-leaf-bare (fresh_in free) w num leaf'.rs lo hi k at bare
 
-      line-is : bytes_of_all (pair_entries kept) ≡ side_line false k d (listed node' 8 (8 + len))
-      unfolding on_side
+      line-is : bytes_of_all (pair_entries kept) ≡ side_line (since k) d es
       line-is =
-          side-line false k (shared k hi) leaf'.es leaf'.rs leaf'.pairs
-          ∙ ap₂ (λ n es. side_line false k n es) (sym ed) (sym (lists ∙ leaf'.node.lists))
+          side-line (since k) (shared k hi) leaf'.es leaf'.rs leaf'.pairs ∙ ap₂ (λ n l. side_line (since k) n l) (sym ed) (sym (lists ∙ leaf'.node.lists))
 
-      pub leaf-fits : length (side_line false k d (listed node' 8 (8 + len))) ≤ 1016
+      pub leaf-fits : length (side_line (since k) d es) ≤ 1016
       unfolding fits fits_in
       leaf-fits =
           let a : leb (pairs_size kept) 1016 && true ≡ true = ap fits_in (sym part-is) ∙ pre.small in
           let b = ap length line-is in
           omega (arith, leb-true (pairs_size kept) 1016 (and_left (leb (pairs_size kept) 1016) _ a), pairs-size kept)
 
-      leaf-written : (new : ℕ) (s' : List ℕ) → new ≡ get_or free at 0 → s' ≡ write_node s new (page 1 1 (side_line false k d (listed node' 8 (8 + len))))
+      leaf-written : (new : ℕ) (s' : List ℕ) → new ≡ get_or free at 0 → s' ≡ write_node s new (page 1 1 (side_line (since k) d es))
           → s' ≡ right_write (fresh_in free) w (tree_at level s num) level lo hi k at s
       unfolding fresh_in
       leaf-written new s' e q =
@@ -101,35 +94,28 @@ module _ (w : Bool) (s : List ℕ) (num level : ℕ) (lo hi k : List ℕ) (at : 
           shown : write_node s (get_or free at 0) (page 1 level (bytes_of_all (pair_entries kept))) ≡ right_write (fresh_in free) w (leaf num leaf'.rs) level lo hi k at s
           shown = unfold right_write page_of fresh_in in rw (bare, under_none leaf'.rs)
 
-      pub leaf-done : (lift out : List ℕ) (new : ℕ) (s' : List ℕ) → new ≡ get_or free at 0 → s' ≡ write_node s new (page 1 1 (side_line false k d (listed node' 8 (8 + len))))
-          → RightAs w (tree_at level s num) level lo hi k at free lift s s' out Parts.Edge
+      pub leaf-done : (lift out : List ℕ) (new : ℕ) (s' : List ℕ) → new ≡ get_or free at 0 → s' ≡ write_node s new (page 1 1 (side_line (since k) d es))
+          → RightAs w (tree_at level s num) level lo hi k at free lift s s' out edge_part
       leaf-done lift out new s' e q =
           record {
             written = leaf-written new s' e q;
             pieces = ap (λ f. raise_branches lift (branches_of f)) part-is ∙ shown;
-            fit = unfold PartsFit in tt;
+            fit = tt;
           }
         where
-          shown : raise_branches lift (branches_of (tree k (leaf (fresh_in free at) kept) end)) ≡ pieces_in (fresh_in free at) (fresh_in free (at + 1)) (lift ++ k) out Parts.Edge
-          shown = unfold raise_branches branches_of pieces_in number_of in refl
+          shown : raise_branches lift (branches_of (tree k (leaf (fresh_in free at) kept) end)) ≡ pieces_in (fresh_in free at) (fresh_in free (at + 1)) (lift ++ k) out edge_part
+          shown = unfold raise_branches branches_of pieces_in edge_piece rest_piece number_of in refl
 
     -- an interior node
-    module _ (inner : 2 ≤ level) (c : Cut) (as-cut : CutAs node' hi (point_of 0 (branches_among (listed node' 8 (8 + len))) hi k) c) (start : Cursor)
-        (at_rest : branches_among (listed node' start.at start.end) ≡ drop (skip_of (point_in node' [] c)) (branches_among (listed node' 8 (8 + len)))) where
+    module _ (inner : 2 ≤ level) (ks : List Branch) (among : ks ≡ branches_among es) (rks : List Branch) (at_rest : rks ≡ rest_of ks hi k) where
       inner' : InteriorAt s num level (level - 1)
       inner' = interior-at s num level inner pre.reads
-
-      abbrev ks : List Branch
-      ks = branches_among (listed node' 8 (8 + len))
-
-      abbrev rks : List Branch
-      rks = branches_among (listed node' start.at start.end)
 
       abbrev under : ℕ → Tree
       under = λ j. tree_at (level - 1) s j
 
       branches-are : inner'.x.branches ≡ ks
-      branches-are = sym (ap branches_among (lists ∙ inner'.node.lists) ∙ (inside-splits inner'.es inner'.x inner'.splits).branches)
+      branches-are = sym (among ∙ ap branches_among (lists ∙ inner'.node.lists) ∙ (inside-splits inner'.es inner'.x inner'.splits).branches)
 
       usables : usable_in (nodes_of (length s)) (forest_of under ks) ≡ true
       usables = ap (λ l. usable_in (nodes_of (length s)) (forest_of under l)) (sym branches-are) ∙ inner'.branches
@@ -139,13 +125,18 @@ module _ (w : Bool) (s : List ℕ) (num level : ℕ) (lo hi k : List ℕ) (at : 
 
       pub branches-small : small_numbers rks ≡ true
       branches-small =
-          ap small_numbers at_rest
-          ∙ small-drop (skip_of (point_in node' [] c)) ks (small-branches (nodes_of (length s)) under ks pre.few (λ j. number_read (level - 1) s j) usables)
+          ap small_numbers at_rest ∙ rest-small hi k ks (small-branches (nodes_of (length s)) under ks pre.few (λ j. number_read (level - 1) s j) usables)
 
-      rest-branches : rest_of ks hi k ≡ rks
-      rest-branches =
-          let z : skip_of (point_of 0 ks hi k) ≡ 0 + skip_of (point_in node' [] c) = ap skip_of (sym as-cut.meant) ∙ sym (skip-high node' hi c) ∙ omega arith in
-          rest-skip hi k 0 ks (skip_of (point_in node' [] c)) z ∙ sym at_rest
+      pub branches-short : length (all_line 0 rks) ≤ 1016
+      unfolding size_of
+      branches-short =
+          let a = ap (λ l. length (all_line 0 l)) at_rest in
+          let b = rest-short hi k ks in
+          let e = ap (λ l. length (all_line 0 l)) (among ∙ ap branches_among lists) in
+          let f = among-short (listing s num) in
+          let g : length (bytes_of_all (listing s num)) ≤ u16 s (num * 1024) = listing-size s num in
+          let h = (node-inside s num level pre.reads).1 in
+          omega arith
 
       abbrev edge : Forest
       edge = edge_at (fresh_in free) w under k (after w at) (point_of 0 ks hi k)
@@ -157,7 +148,7 @@ module _ (w : Bool) (s : List ℕ) (num level : ℕ) (lo hi k : List ℕ) (at : 
       edge_same = edge-is hi k (fresh_in free) w under 0 (after w at) ks
 
       rest-same : rest_in (forest_of under ks) [] hi k ≡ rest
-      rest-same = rest-is hi k under ks ∙ ap (forest_of under) rest-branches
+      rest-same = rest-is hi k under ks ∙ ap (forest_of under) (sym at_rest)
 
       branches-rest : branches_of rest ≡ rks
       branches-rest = branches-forest under rks (λ j. number_read (level - 1) s j)
@@ -184,10 +175,10 @@ module _ (w : Bool) (s : List ℕ) (num level : ℕ) (lo hi k : List ℕ) (at : 
               (rest_in (forest_of under ks) [] hi k) (edge_write (fresh_in free) w (forest_of under ks) (level - 1) [] hi k (after w at) s)
           shown = unfold right_write in rw bare
 
-      -- what the child is asked
-      asks_of : (x : Point) (a : ℕ) → a ≤ at + 2 → fits_in (edge_at (fresh_in free) w under k a x) ≡ true → PointIs under (nodes_of (length s)) k x → PointAsksRight w s (level - 1) k a free x
-      unfolding PointIs PointAsksRight edge_at
-      asks_of (within n i low high) a g f h =
+      -- what the child that holds the cut is asked
+      inside-asks : (i : ℕ) (low high : List ℕ) (a : ℕ) → a ≤ at + 2 → fits_in (right_of (fresh_in free) w (tree_at (level - 1) s i) low high k a) ≡ true
+          → (usable (nodes_of (length s)) (tree_at (level - 1) s i) ≡ true) × (before low k ≡ true) × (before k high ≡ true) → RightAsks w s i (level - 1) low high k a free
+      inside-asks i low high a g f h =
           record {
             reads = h.0;
             small = f;
@@ -198,25 +189,25 @@ module _ (w : Bool) (s : List ℕ) (num level : ℕ) (lo hi k : List ℕ) (at : 
             enough = let b = pre.enough in omega arith;
             room = λ j b. pre.room j (omega arith);
           }
-      asks_of (between n low) a g f h = tt
-      asks_of (nowhere n) a g f h = tt
 
-      child-asks : (a : ℕ) → after w at ≡ a → a ≤ at + 2 → fits_in edge ≡ true → PointAsksRight w s (level - 1) k a free (point_in node' hi c)
-      child-asks a e g f =
-          subst (PointAsksRight w s (level - 1) k a free) (sym as-cut.meant)
-          (asks_of (point_of 0 ks hi k) a g (ap (λ i. fits_in (edge_at (fresh_in free) w under k i (point_of 0 ks hi k))) (sym e) ∙ f) (point-is under hi k (nodes_of (length s)) ks 0 usables))
+      child-asks : (a : ℕ) → after w at ≡ a → a ≤ at + 2 → fits_in edge ≡ true → (b : child.Branch) → Holds (point_of 0 ks hi k) b
+          → RightAsks w s b.number (level - 1) b.low.now b.high.now k a free
+      unfolding PointIs edge_at
+      child-asks a e g f b h =
+          inside-asks b.number b.low.now b.high.now a g
+          (ap (λ x. fits_in (edge_at (fresh_in free) w under k a x)) (sym h.is) ∙ ap (λ i. fits_in (edge_at (fresh_in free) w under k i (point_of 0 ks hi k))) (sym e) ∙ f)
+          (subst (PointIs under (nodes_of (length s)) k) h.is (point-is under hi k (nodes_of (length s)) ks 0 usables))
 
       -- the child's answer
-      module _ (a : ℕ) (ea : after w at ≡ a) (s₁ out : List ℕ) (below : Parts) (ans : EdgeAs w (level - 1) k a free s s₁ out (point_in node' hi c) below) where
+      module _ (a : ℕ) (ea : after w at ≡ a) (s₁ out : List ℕ) (below : Parts) (ans : EdgeAs w (level - 1) k a free s s₁ out (point_of 0 ks hi k) below) where
         edge-branches : branches_of edge ≡ pieces_in (fresh_in free a) (fresh_in free (a + 1)) k out below
         edge-branches =
             ap (λ i. branches_of (edge_at (fresh_in free) w under k i (point_of 0 ks hi k))) ea
-            ∙ ap (λ x. branches_of (edge_at (fresh_in free) w under k a x)) (sym as-cut.meant) ∙ ans.pieces
+            ∙ ans.pieces
 
         first-is : s₁ ≡ right_at (fresh_in free) w under (level - 1) k (after w at) s (point_of 0 ks hi k)
         first-is =
-            ans.written ∙ ap (right_at (fresh_in free) w under (level - 1) k a s) as-cut.meant
-            ∙ ap (λ i. right_at (fresh_in free) w under (level - 1) k i s (point_of 0 ks hi k)) (sym ea)
+            ans.written ∙ ap (λ i. right_at (fresh_in free) w under (level - 1) k i s (point_of 0 ks hi k)) (sym ea)
 
         -- wide: two nodes
         module _ (ew : w ≡ true) (e2 : a ≡ at + 2) where
@@ -237,9 +228,8 @@ module _ (w : Bool) (s : List ℕ) (num level : ℕ) (lo hi k : List ℕ) (at : 
               wide_fits (fresh_in free at) (fresh_in free (suc at)) k hi edge rest
               (ap (λ v. fits_in (packed v (fresh_in free at) (fresh_in free (suc at)) k hi edge rest)) (sym ew) ∙ packed-fits)
 
-          pub wide-ready : (size : ℕ) → length s ≤ size → start.end ≤ length node' → WideReady size level node' start hi k below out at free
-          unfolding WideReady
-          wide-ready size big ends =
+          pub wide-ready : (size : ℕ) → length s ≤ size → WideAsks size level rks hi k below out at free
+          wide-ready size big =
               let p = wide-parts in
               let x : all_line (length (shared k (high_of [] hi rest))) (branches_of edge) ≡ all_line (length (shared k (branch_high hi rks))) (pieces_in (fresh_in free (at + 2)) (fresh_in free (at + 3)) k out below) =
               ap₂ (λ h q. all_line (length (shared k h)) q) high_is branches-wide in
@@ -251,18 +241,19 @@ module _ (w : Bool) (s : List ℕ) (num level : ℕ) (lo hi k : List ℕ) (at : 
                 enough = let b = pre.enough in omega arith;
                 room = λ i b. let q = pre.room i (omega arith) in omega arith;
                 fit = ans.fit;
-                ends = ends;
                 numbers = branches-small;
                 edge_fits = omega arith;
                 rest_fits = omega arith;
               }
 
-          pub wide-done : (lift s₂ out' : List ℕ) (r : Parts) → WideAs level node' start hi k below out at free lift s₁ s₂ out' r
-              → RightAs w (tree_at level s num) level lo hi k at free lift s s₂ out' r
-          wide-done lift s₂ out' r done =
+          pub wide-done : (lift s₂ out' : List ℕ) (r : Parts)
+              → s₂ ≡ wide_body (fresh_in free at) (fresh_in free (at + 1)) level k hi (branch_high hi rks) (pieces_in (fresh_in free (at + 2)) (fresh_in free (at + 3)) k out below) rks s₁
+              → both_told rks below lift out' r → RightAs w (tree_at level s num) level lo hi k at free lift s s₂ out' r
+          wide-done lift s₂ out' r q told =
+              let p = both-pieces hi k below out at free lift rks out' r told in
               record {
                 written =
-                    done.written
+                    q
                     ∙ sym (λ i. wide_body (fresh_in free at) (m-is i) level k hi (high_is i) (branches-wide i) (branches-rest i) s₁)
                     ∙ sym (write-wide-is level (fresh_in free at) (fresh_in free (suc at)) k hi edge rest s₁)
                     ∙ (λ i. packed_write (sym ew i) level (fresh_in free at) (fresh_in free (suc at)) k hi edge rest (first-is i))
@@ -271,8 +262,8 @@ module _ (w : Bool) (s : List ℕ) (num level : ℕ) (lo hi k : List ℕ) (at : 
                     ap (λ f. raise_branches lift (branches_of f)) (part-is' ∙ ap (λ v. packed v (fresh_in free at) (fresh_in free (suc at)) k hi edge rest) ew)
                     ∙ ap (raise_branches lift) (packed-wide (fresh_in free at) (fresh_in free (suc at)) k hi edge rest)
                     ∙ (λ i. raise_branches lift (head_branch (fresh_in free at) k (branches-wide i) ++ head_branch (m-is i) (high_is i) (branches-rest i)))
-                    ∙ done.pieces;
-                fit = done.fit;
+                    ∙ p.0;
+                fit = p.1;
               }
 
         -- narrow: one node
@@ -286,8 +277,8 @@ module _ (w : Bool) (s : List ℕ) (num level : ℕ) (lo hi k : List ℕ) (at : 
           all-branches : branches_of edge ++ branches_of rest ≡ pieces_in (fresh_in free (at + 1)) (fresh_in free (at + 2)) k out below ++ rks
           all-branches = ap₂ (λ x y. x ++ y) branches-narrow branches-rest
 
-          pub narrow-ready : (size : ℕ) → length s ≤ size → start.end ≤ length node' → NarrowAsks size level node' start hi k below out at free
-          narrow-ready size big ends =
+          pub narrow-ready : (size : ℕ) → length s ≤ size → NarrowAsks size level rks hi k below out at free
+          narrow-ready size big =
               let p = narrow-fits (fresh_in free at) (fresh_in free (suc at)) k hi edge rest
               (ap (λ v. fits_in (packed v (fresh_in free at) (fresh_in free (suc at)) k hi edge rest)) (sym ew) ∙ packed-fits) in
               let x = ap (λ q. length (all_line (length (shared k hi)) q)) all-branches in
@@ -296,7 +287,6 @@ module _ (w : Bool) (s : List ℕ) (num level : ℕ) (lo hi k : List ℕ) (at : 
                 enough = let b = pre.enough in omega arith;
                 room = λ i b. let q = pre.room i (omega arith) in omega arith;
                 fit = ans.fit;
-                ends = ends;
                 numbers = branches-small;
                 all_fit = omega arith;
               }
@@ -321,17 +311,23 @@ module _ (w : Bool) (s : List ℕ) (num level : ℕ) (lo hi k : List ℕ) (at : 
               }
 
       -- what each way asks of the child
-      pub asks-wide : w ≡ true → PointAsksRight w s (level - 1) k (at + 2) free (point_in node' hi c)
+      asks-wide : w ≡ true → (b : child.Branch) → Holds (point_of 0 ks hi k) b → RightAsks w s b.number (level - 1) b.low.now b.high.now k (at + 2) free
       asks-wide ew =
           child-asks (at + 2) (after-wide w at ew) (omega arith)
           (wide_fits (fresh_in free at) (fresh_in free (suc at)) k hi edge rest
           (ap (λ v. fits_in (packed v (fresh_in free at) (fresh_in free (suc at)) k hi edge rest)) (sym ew) ∙ packed-fits)).2
 
-      pub asks-narrow : w ≡ false → PointAsksRight w s (level - 1) k (at + 1) free (point_in node' hi c)
+      asks-narrow : w ≡ false → (b : child.Branch) → Holds (point_of 0 ks hi k) b → RightAsks w s b.number (level - 1) b.low.now b.high.now k (at + 1) free
       asks-narrow ew =
           child-asks (at + 1) (after-narrow w at ew) (omega arith)
           (narrow-fits (fresh_in free at) (fresh_in free (suc at)) k hi edge rest
           (ap (λ v. fits_in (packed v (fresh_in free at) (fresh_in free (suc at)) k hi edge rest)) (sym ew) ∙ packed-fits)).1
+
+      pub asks : (a : ℕ) → a ≡ after w at → (b : child.Branch) → Holds (point_of 0 ks hi k) b → RightAsks w s b.number (level - 1) b.low.now b.high.now k a free
+      asks a e b h =
+          cases w
+          (λ t. subst (λ n. RightAsks w s b.number (level - 1) b.low.now b.high.now k n free) (sym (e ∙ after-wide w at t)) (asks-wide t b h))
+          (λ f. subst (λ n. RightAsks w s b.number (level - 1) b.low.now b.high.now k n free) (sym (e ∙ after-narrow w at f)) (asks-narrow f b h))
 
 -- THE LOW PIVOT OF A TREE THAT LIFTS NOTHING DOES NOT MATTER
 right-low-bare : (fresh : ℕ → ℕ) (w : Bool) (t : Tree) (lo hi k : List ℕ) (at : ℕ) → shared lo hi ≡ [] → right_of fresh w t lo hi k at ≡ right_of fresh w t [] hi k at
@@ -352,6 +348,11 @@ right-write-bare fresh w (interior i f ms) zero lo hi k at s e = refl
 right-write-bare fresh w (interior i f ms) (suc h) lo hi k at s e =
     ap (λ p. packed_write w (suc h) (fresh at) (fresh (suc at)) k hi (edge_in fresh w f p hi k (after w at)) (rest_in f p hi k) (edge_write fresh w f h p hi k (after w at) s)) e
 
+raise-bare : (ks : List Branch) → raise_branches [] ks ≡ ks
+unfolding raise_branches
+raise-bare [] = refl
+raise-bare (c ∷ cs) = ap (λ l. c ∷ l) (raise-bare cs)
+
 some_after : (lo k : List ℕ) → before lo k ≡ true → before [] k ≡ true
 unfolding before
 some_after [] k e = e
@@ -369,91 +370,75 @@ module _ (w : Bool) (s : List ℕ) (i level : ℕ) (low high k : List ℕ) (at :
   pub strip-high : j ≤ length high
   strip-high = let a = ap length (split-high low high) in let b = length-append (shared low high) (drop (length (shared low high)) high) in omega arith
 
-  pub lift-is : take (j - 0) (drop 0 k) ≡ shared low high
-  lift-is =
-      let z : j - 0 ≡ length (shared low high) = omega arith in
-      ap (λ n. take n k) z ∙ ap (take (length (shared low high))) (sym within-k) ∙ take-append_seam (shared low high) (drop (length (shared low high)) k)
+  lift-is : take j k ≡ shared low high
+  lift-is = ap (λ n. take n k) ej ∙ ap (take (length (shared low high))) (sym within-k) ∙ take-append_seam (shared low high) (drop (length (shared low high)) k)
 
-  module _ (high' k' lift : List ℕ) (f : high' ≡ drop j high) (g : k' ≡ drop j k) (h : lift ≡ take (j - 0) (drop 0 k)) where
-    abbrev low' : List ℕ
-    low' = drop (length (shared low high)) low
+  abbrev low' : List ℕ
+  low' = drop (length (shared low high)) low
 
-    eh : high' ≡ drop (length (shared low high)) high
-    eh = f ∙ ap (λ n. drop n high) ej
+  eh : from j high ≡ drop (length (shared low high)) high
+  eh = part-rest j high ∙ ap (λ n. drop n high) ej
 
-    ek : k' ≡ drop (length (shared low high)) k
-    ek = g ∙ ap (λ n. drop n k) ej
+  ek : from j k ≡ drop (length (shared low high)) k
+  ek = part-rest j k ∙ ap (λ n. drop n k) ej
 
-    bare : shared (drop (length (shared low high)) low) high' ≡ []
-    bare = ap (shared low') eh ∙ strip-shared low high
+  bare : shared (drop (length (shared low high)) low) (from j high) ≡ []
+  bare = ap (shared low') eh ∙ strip-shared low high
 
-    stripped : right_of (fresh_in free) w (tree_at level s i) low high k at ≡ raise (shared low high) (right_of (fresh_in free) w (tree_at level s i) [] high' k' at)
-    stripped =
-        right-strip low high (fresh_in free) k pre.above pre.below w (tree_at level s i) at
-        ∙ sym (λ z. raise (shared low high) (right_of (fresh_in free) w (tree_at level s i) low' (eh z) (ek z) at))
-        ∙ ap (raise (shared low high)) (right-low-bare (fresh_in free) w (tree_at level s i) low' high' k' at bare)
+  stripped : right_of (fresh_in free) w (tree_at level s i) low high k at ≡ raise (shared low high) (right_of (fresh_in free) w (tree_at level s i) [] (from j high) (from j k) at)
+  stripped =
+      right-strip low high (fresh_in free) k pre.above pre.below w (tree_at level s i) at
+      ∙ sym (λ z. raise (shared low high) (right_of (fresh_in free) w (tree_at level s i) low' (eh z) (ek z) at))
+      ∙ ap (raise (shared low high)) (right-low-bare (fresh_in free) w (tree_at level s i) low' (from j high) (from j k) at bare)
 
-    pub strip-asks : RightAsks w s i level [] high' k' at free
-    strip-asks =
-        record {
-          reads = pre.reads;
-          small = sym (fits-raise (shared low high) (right_of (fresh_in free) w (tree_at level s i) [] high' k' at)) ∙ ap fits_in (sym stripped) ∙ pre.small;
-          above =
-              some_after low' k'
-              (ap (before low') ek ∙ sym (before-append (shared low high) (drop (length (shared low high)) low) (drop (length (shared low high)) k))
-              ∙ ap₂ before (split-low low high) within-k ∙ pre.above);
-          below =
-              ap₂ before ek eh ∙ sym (before-append (shared low high) (drop (length (shared low high)) k) (drop (length (shared low high)) high))
-              ∙ ap₂ before within-k (split-high low high) ∙ pre.below;
-          few = pre.few;
-          levels = pre.levels;
-          enough = pre.enough;
-          room = pre.room;
-        }
+  pub strip-asks : RightAsks w s i level [] (from j high) (from j k) at free
+  strip-asks =
+      record {
+        reads = pre.reads;
+        small = sym (fits-raise (shared low high) (right_of (fresh_in free) w (tree_at level s i) [] (from j high) (from j k) at)) ∙ ap fits_in (sym stripped) ∙ pre.small;
+        above =
+            some_after low' (from j k)
+            (ap (before low') ek ∙ sym (before-append (shared low high) (drop (length (shared low high)) low) (drop (length (shared low high)) k))
+            ∙ ap₂ before (split-low low high) within-k ∙ pre.above);
+        below =
+            ap₂ before ek eh ∙ sym (before-append (shared low high) (drop (length (shared low high)) k) (drop (length (shared low high)) high))
+            ∙ ap₂ before within-k (split-high low high) ∙ pre.below;
+        few = pre.few;
+        levels = pre.levels;
+        enough = pre.enough;
+        room = pre.room;
+      }
 
-    pub strip-done : {n : ℕ} (s' out : List ℕ) (r : Parts) → RightAs w (tree_at level s i) level [] high' k' at free lift s s' out r
-        → EdgeAs w level k at free s s' out (within n i low high) r
-    unfolding right_at edge_at
-    strip-done s' out r ans =
-        record {
-          written =
-              ans.written ∙ sym (right-write-bare (fresh_in free) w (tree_at level s i) level low' high' k' at s bare)
-              ∙ (λ z. right_write (fresh_in free) w (tree_at level s i) level low' (eh z) (ek z) at s)
-              ∙ sym (right-write-strip (fresh_in free) low high k pre.above pre.below w (tree_at level s i) level at s);
-          pieces =
-              ap branches_of stripped ∙ branches-raise (shared low high) (right_of (fresh_in free) w (tree_at level s i) [] high' k' at)
-              ∙ ap (λ l. raise_branches l (branches_of (right_of (fresh_in free) w (tree_at level s i) [] high' k' at))) (sym (h ∙ lift-is)) ∙ ans.pieces
-              ∙ ap (λ l. pieces_in (fresh_in free at) (fresh_in free (at + 1)) l out r) (ap₂ (λ x y. x ++ y) (h ∙ lift-is) ek ∙ within-k);
-          fit = ans.fit;
-        }
+  pub strip-done : (s' out : List ℕ) (r : Parts) → RightAs w (tree_at level s i) level [] (from j high) (from j k) at free (take j k) s s' out r
+      → RightAs w (tree_at level s i) level low high k at free [] s s' out r
+  strip-done s' out r ans =
+      record {
+        written =
+            ans.written ∙ sym (right-write-bare (fresh_in free) w (tree_at level s i) level low' (from j high) (from j k) at s bare)
+            ∙ (λ z. right_write (fresh_in free) w (tree_at level s i) level low' (eh z) (ek z) at s)
+            ∙ sym (right-write-strip (fresh_in free) low high k pre.above pre.below w (tree_at level s i) level at s);
+        pieces =
+            raise-bare (branches_of (right_of (fresh_in free) w (tree_at level s i) low high k at))
+            ∙ ap branches_of stripped ∙ branches-raise (shared low high) (right_of (fresh_in free) w (tree_at level s i) [] (from j high) (from j k) at)
+            ∙ ap (λ l. raise_branches l (branches_of (right_of (fresh_in free) w (tree_at level s i) [] (from j high) (from j k) at))) (sym lift-is) ∙ ans.pieces
+            ∙ ap (λ l. pieces_in (fresh_in free at) (fresh_in free (at + 1)) l out r) (ap₂ (λ x y. x ++ y) lift-is ek ∙ within-k);
+        fit = ans.fit;
+      }
 
 -- BY THE ANSWER
-module _ (w : Bool) (s node' hi k : List ℕ) (level at : ℕ) (free : List ℕ) (c : Cut) where
-  pub inner-asks : (n i : ℕ) (p q : Place) → c ≡ Cut.Inner n i p q → PointAsksRight w s level k at free (point_in node' hi c) → RightAsks w s i level (part node' p) (part node' q) k at free
-  unfolding PointAsksRight point_in
-  inner-asks n i p q e h = subst (λ z. PointAsksRight w s level k at free (point_in node' hi z)) e h
+module _ (w : Bool) (s k : List ℕ) (level at : ℕ) (free : List ℕ) (x : Point) where
+  pub held-answer : (b : child.Branch) → Holds x b → (s' out : List ℕ) (r : Parts)
+      → RightAs w (tree_at level s b.number) level b.low.now b.high.now k at free [] s s' out r → EdgeAs w level k at free s s' out x r
+  held-answer b h s' out r ans =
+      subst (λ z. EdgeAs w level k at free s s' out z r) (sym h.is)
+      (record {
+        written = unfold right_at in ans.written;
+        pieces = unfold edge_at in (sym (raise-bare (branches_of (right_of (fresh_in free) w (tree_at level s b.number) b.low.now b.high.now k at))) ∙ ans.pieces);
+        fit = ans.fit;
+      })
 
-  pub last-asks : (n i : ℕ) (p : Place) → c ≡ Cut.Last n i p → PointAsksRight w s level k at free (point_in node' hi c) → RightAsks w s i level (part node' p) hi k at free
-  unfolding PointAsksRight point_in
-  last-asks n i p e h = subst (λ z. PointAsksRight w s level k at free (point_in node' hi z)) e h
-
-  module _ (s' out : List ℕ) (r : Parts) where
-    pub inner-at : (n i : ℕ) (p q : Place) → c ≡ Cut.Inner n i p q → EdgeAs w level k at free s s' out (within n i (part node' p) (part node' q)) r
-        → EdgeAs w level k at free s s' out (point_in node' hi c) r
-    unfolding point_in
-    inner-at n i p q e h = subst (λ z. EdgeAs w level k at free s s' out (point_in node' hi z) r) (sym e) h
-
-    pub last-at : (n i : ℕ) (p : Place) → c ≡ Cut.Last n i p → EdgeAs w level k at free s s' out (within n i (part node' p) hi) r
-        → EdgeAs w level k at free s s' out (point_in node' hi c) r
-    unfolding point_in
-    last-at n i p e h = subst (λ z. EdgeAs w level k at free s s' out (point_in node' hi z) r) (sym e) h
-
-  pub between-at : (out : List ℕ) (n : ℕ) (p : Place) → c ≡ Cut.Between n p → EdgeAs w level k at free s s out (point_in node' hi c) Parts.Nothing
-  unfolding point_in right_at edge_at branches_of pieces_in PartsFit
-  between-at out n p e =
-      subst (λ z. EdgeAs w level k at free s s out (point_in node' hi z) Parts.Nothing) (sym e) (record { written = refl; pieces = refl; fit = tt })
-
-  pub nowhere-at : (out : List ℕ) (n : ℕ) → c ≡ Cut.Nowhere n → EdgeAs w level k at free s s out (point_in node' hi c) Parts.Nothing
-  unfolding point_in right_at edge_at branches_of pieces_in PartsFit
-  nowhere-at out n e =
-      subst (λ z. EdgeAs w level k at free s s out (point_in node' hi z) Parts.Nothing) (sym e) (record { written = refl; pieces = refl; fit = tt })
+pub missed-answer : (w : Bool) (s k : List ℕ) (level at : ℕ) (free : List ℕ) (x : Point) → Misses x → (out : List ℕ) → EdgeAs w level k at free s s out x no_parts
+unfolding Misses right_at edge_at branches_of pieces_in edge_piece rest_piece
+missed-answer w s k level at free (within n i low high) h out = absurd h
+missed-answer w s k level at free (between n low) h out = record { written = refl; pieces = refl; fit = tt }
+missed-answer w s k level at free (nowhere n) h out = record { written = refl; pieces = refl; fit = tt }

@@ -1,6 +1,6 @@
-// The slices of a settled tree at a cut, written into free nodes, the deepest first. Everything is told from inside a node: pivots and cut are
-// without what the node lifts. A node takes the number of its place in the list of free nodes, its child the next one. Relies on pairs, point and
-// branches (the page of one node), on node's writer and on octets; specs/Slicing's `left_write` says what is written.
+// The slices of a settled tree at a cut, written into free nodes, the deepest first. Everything is told from inside the parent: pivots and cut are
+// without what it lifts. A node takes the number of its place in the list of free nodes, its child the next one. Relies on pairs and branches (the page
+// of one node), on push (the copy of a node), on node and on octets; specs/Slicing's `left_write` says what is written.
 
 #![tactic(auto)]
 
@@ -11,33 +11,32 @@ pub mod pieces;
 mod point;
 pub mod right;
 
-ghost use Rattle.std.specs.Prelude.{◌≡◌, [], ◌+◌, ◌*◌, length};
-ghost use Rattle.image.specs.Bytes.{shared};
-ghost use Rattle.image.specs.Image.{tree_at, node_bytes};
-ghost use Rattle.node.specs.Whole.{HasNode};
+ghost use Rattle.std.specs.Prelude.{◌≡◌, ◌+◌, ◌*◌};
+ghost use Rattle.image.specs.Image.{tree_at};
 ghost use Rattle.slice.specs.Slicing.SliceWrite.{left_write};
-ghost use Rattle.slice.specs.Point.{fresh_in, point_in, CutFits, left_at};
-ghost use Rattle.slice.specs.Left.{LeftAsks, PointAsks};
+ghost use Rattle.slice.specs.Point.{fresh_in};
+ghost use Rattle.slice.specs.Left.{LeftAsks};
+ghost use Rattle.slice.specs.Right.{has_any};
 
-use node::{Place, writer};
+use node::branches::{Branch, Branches};
+use node::entries::Entries;
+use node::page::Page;
 
-// Where a cut falls among the children of a node: how many end at it or before it, and the child that holds it strictly inside, with
-// its number and its pivots (the last child's high pivot is the node's); or the pivot of the child that starts at it or after it.
+// The pieces of a right part: whether there is an edge, whose pivot is the cut; and of a rest, if there is one, how many bytes of a buffer its pivot is.
 #[derive(Clone, Copy)]
-pub enum Cut {
-    Inner(usize, usize, Place, Place),
-    Last(usize, usize, Place),
-    Between(usize, Place),
-    Nowhere(usize),
+pub struct Parts {
+    pub edge: bool,
+    pub rest: Option<usize>,
 }
 
-// The pieces of a right part: an edge, whose pivot is the cut, and a rest, whose pivot is that many bytes of a buffer.
-#[derive(Clone, Copy)]
-pub enum Parts {
-    Nothing,
-    Edge,
-    Rest(usize),
-    Both(usize),
+impl Parts {
+    // Whether there are any.
+    #[tactic(auto, unfolding(crate::specs::Right::has_any))]
+    fn has_any(self) -> bool
+        ensures { result ≡ has_any self }
+    {
+        self.edge || self.rest.is_some()
+    }
 }
 
 // Where the part of a tree goes: the level of its root, and the place of its first number in the list of free nodes.
@@ -47,91 +46,36 @@ pub struct Slot {
     pub at: usize,
 }
 
-// A copy of a node.
-fn read_node(store: &[u8], num: usize, node: &mut [u8])
-    requires { HasNode store.now num × (length node.old ≡ 1024) }
-    ensures { node.new ≡ node_bytes store.now num }
-{
-    let a = num * image::NODE_SIZE;
-    let b = a + 1024;
-    octets::copy_at(node, 0, &store[a..b]);
-}
-
-// The part of a tree before a cut k.
-#[cycle(slice_cut_slice_left)]
-pub fn slice_left(
-    store: &mut [u8],
-    num: usize,
-    slot: Slot,
-    lo: &[u8],
-    hi: &[u8],
-    k: &[u8],
-    free: &[u16],
-)
-    requires { LeftAsks store.old num slot.level lo.now hi.now k.now slot.at free.now × (shared lo.now hi.now ≡ []) }
+// The part of a child's tree before a cut k, which lies strictly inside it.
+pub fn slice_left(store: &mut [u8], child: Branch, slot: Slot, k: &[u8], free: &[u16])
+    requires { LeftAsks store.old child.number slot.level child.low.now child.high.now k.now slot.at free.now }
     ensures { store.new
-        ≡ left_write (fresh_in free.now) (tree_at slot.level store.old num) slot.level lo.now hi.now
-        k.now slot.at store.old }
+        ≡ left_write (fresh_in free.now) (tree_at slot.level store.old child.entry.number) slot.level child.entry.low.now
+        child.entry.high.now k.now slot.at store.old }
 {
-    let level = slot.level;
-    let at = slot.at;
-    let mut node = [0u8; 1024];
-    read_node(store, num, &mut node);
-    let len = octets::u16_at(&node, 0);
+    let Slot { level, at } = slot;
+    let lifted = octets::common_length(child.low, child.high);
+    let low = &child.low[lifted..];
+    let high = &child.high[lifted..];
+    let cut = &k[lifted..];
+    let node = push::copy_node(store, child.number);
+    let entries = Entries::of_node(&node, 0);
     let new = free[at] as usize;
-    let d = octets::common_length(lo, k);
+    let d = octets::common_length(low, cut);
     if level <= 1 {
-        pairs::write_pairs(store, new, &node, image::ENTRIES_AT + len, true, k, d);
+        pairs::write_pairs(store, new, entries, |own| octets::precedes(own, cut), d);
         return;
     }
-    let cut = point::find_point(&node, image::ENTRIES_AT + len, hi, k);
+    let mut page = Page::new();
     let next = at + 1;
-    let child = free[next] as usize;
-    let mut page = [0u8; 1024];
-    let end = branches::emit_left(&mut page, &node, image::ENTRIES_AT + len, cut, d, child);
-    let down = level - 1;
-    let inner = Slot {
-        level: down,
-        at: next,
-    };
-    slice_cut(store, &node, cut, inner, hi, k, free);
-    writer::write_page(
-        store,
-        new,
-        &mut page,
-        image::INTERIOR,
-        level,
-        end - image::ENTRIES_AT,
-    );
-}
-
-// The part before the cut of the child that holds it, if there is one.
-#[cycle(slice_cut_slice_left)]
-fn slice_cut(store: &mut [u8], node: &[u8], cut: Cut, slot: Slot, hi: &[u8], k: &[u8], free: &[u16])
-    requires { CutFits (length node.now) cut × PointAsks store.old slot.level k.now slot.at free.now (point_in node.now hi.now cut) }
-    ensures { store.new
-        ≡ left_at (fresh_in free.now) (λ j. tree_at slot.level store.old j) slot.level k.now slot.at
-        store.old (point_in node.now hi.now cut) }
-{
-    match cut {
-        Cut::Inner(_, num, low, high) => {
-            let a = low.start;
-            let b = low.stop;
-            let x = high.start;
-            let y = high.stop;
-            let j = octets::common_length(&node[a..b], &node[x..y]);
-            let f = a + j;
-            let g = x + j;
-            slice_left(store, num, slot, &node[f..b], &node[g..y], &k[j..], free);
-        }
-        Cut::Last(_, num, low) => {
-            let a = low.start;
-            let b = low.stop;
-            let j = octets::common_length(&node[a..b], hi);
-            let f = a + j;
-            slice_left(store, num, slot, &node[f..b], &hi[j..], &k[j..], free);
-        }
-        Cut::Between(_, _) => {}
-        Cut::Nowhere(_) => {}
+    let children = Branches::among(entries, high);
+    let held = branches::emit_left(&mut page, children, cut, d, free[next] as usize);
+    if let Some(inner) = held {
+        let below = Slot {
+            level: level - 1,
+            at: next,
+        };
+        slice_left(store, inner, below, cut, free);
     }
+    page.write(store, new, image::INTERIOR, level);
 }

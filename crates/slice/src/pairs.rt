@@ -1,107 +1,39 @@
-// The part of a leaf on one side of a cut: its pairs there, each key without its first bytes; specs/Point says which pairs they are.
-// Relies on node's cursor and writer, on push's room (a part without its first bytes) and on octets.
-ghost use Rattle.std.specs.Prelude.{◌≡◌, ◌∷◌, [], ◌+◌, ◌≤◌, length};
+// The part of a leaf on one side of a cut: its pairs whose keys pass a test, each key without its first bytes; specs/Point says which pairs they are.
+// Relies on node's entries and page and on push's room (a key without its first bytes).
+ghost use Rattle.std.specs.Prelude.{◌≡◌, ◌≤◌, List, ℕ, Bool, length};
 ghost use Rattle.laws.specs.WriteNode.{write_node};
 ghost use Rattle.laws.specs.Page.{page};
-ghost use Rattle.octets.specs.Put.{put};
-ghost use Rattle.node.specs.Places.{EntryWithin, entry_in};
-ghost use Rattle.node.specs.Entries.{listed};
+ghost use Rattle.node.specs.Lent.{left_of};
 ghost use Rattle.node.specs.Whole.{HasNode};
-ghost use Rattle.slice.specs.Point.{on_side, side_line};
+ghost use Rattle.push.specs.Sides.{Tells};
+ghost use Rattle.slice.specs.Point.{side_line};
 
-use node::{Cursor, Entry, Step, writer};
+use node::entries::{Entries, Entry};
+use node::page::Page;
+use push::room::past;
 
-// Whether a key lies on that side.
-fn is_on_side(left: bool, k: &[u8], own: &[u8]) -> bool
-    ensures { result ≡ on_side left k.now own.now }
-{
-    if left {
-        return octets::precedes(own, k);
-    }
-    !octets::precedes(own, k)
-}
-
-// An entry of the leaf, if it is a pair on that side. Gives the place behind it.
-fn emit_pair(
-    page: &mut [u8],
-    at: usize,
-    node: &[u8],
-    e: Entry,
-    left: bool,
-    k: &[u8],
-    d: usize,
-) -> usize
-    requires { EntryWithin 0 (length node.now) e × (at + length (side_line left k.now d (entry_in node.now e ∷ [])) ≤ length page.old) × (length page.old ≤ 1024) }
-    ensures { (page.new ≡ put page.old at (side_line left k.now d (entry_in node.now e ∷ [])))
-        × (result ≡ at + length (side_line left k.now d (entry_in node.now e ∷ []))) }
-{
-    match e {
-        Entry::Pair(p, v) => {
-            let a = p.start;
-            let b = p.stop;
-            if !is_on_side(left, k, &node[a..b]) {
-                return at;
-            }
-            let s = push::room::start_past(p, d);
-            let x = v.start;
-            let y = v.stop;
-            writer::write_keyed(page, at, image::PAIR, &node[s..b], &node[x..y])
-        }
-        Entry::Child(_, _) => at,
-        Entry::Message(_) => at,
-    }
-}
-
-// The pairs of the leaf on that side. Gives the place behind them.
-fn emit_pairs(
-    page: &mut [u8],
-    at: usize,
-    node: &[u8],
-    stop: usize,
-    left: bool,
-    k: &[u8],
-    d: usize,
-) -> usize
-    requires { (stop ≤ length node.now) × (at + length (side_line left k.now d (listed node.now 8 stop)) ≤ length page.old) × (length page.old ≤ 1024) }
-    ensures { (page.new ≡ put page.old at (side_line left k.now d (listed node.now 8 stop)))
-        × (result ≡ at + length (side_line left k.now d (listed node.now 8 stop))) }
-{
-    let mut c = Cursor {
-        at: image::ENTRIES_AT,
-        end: stop,
-    };
-    let mut to = at;
-    while c.at < stop {
-        let Step::Read(e, next) = c.step(node) else {
-            return to;
-        };
-        to = emit_pair(page, to, node, e, left, k, d);
-        c = next;
-    }
-    to
-}
-
-// A new leaf of the pairs on that side.
-pub fn write_pairs(
+// A new leaf of the pairs whose keys pass a test.
+pub fn write_pairs<F: Fn(&[u8]) -> bool>(
     store: &mut [u8],
     num: usize,
-    node: &[u8],
-    stop: usize,
-    left: bool,
-    k: &[u8],
+    leaf: Entries,
+    keeps: F,
     d: usize,
 )
-    requires { (stop ≤ length node.now) × (length (side_line left k.now d (listed node.now 8 stop)) ≤ 1016) × HasNode store.old num }
-    ensures { store.new ≡ write_node store.old num (page 1 1 (side_line left k.now d (listed node.now 8 stop))) }
+    requires { F.IsAlwaysCallable keeps
+        × HasNode store.old num
+        × ((test : List ℕ → Bool) × Tells (F.post keeps) test × (length (side_line test d (left_of leaf)) ≤ 1016)) }
+    ensures { (test : List ℕ → Bool)
+        → Tells (F.post keeps) test
+        → store.new ≡ write_node store.old num (page 1 1 (side_line test d (left_of leaf.entry))) }
 {
-    let mut page = [0u8; 1024];
-    let end = emit_pairs(&mut page, image::ENTRIES_AT, node, stop, left, k, d);
-    writer::write_page(
-        store,
-        num,
-        &mut page,
-        image::LEAF,
-        1,
-        end - image::ENTRIES_AT,
-    );
+    let mut page = Page::new();
+    for entry in leaf {
+        if let Entry::Pair(key, value) = entry {
+            if keeps(key) {
+                page.push(Entry::Pair(past(key, d), value));
+            }
+        }
+    }
+    page.write(store, num, image::LEAF, 1);
 }

@@ -1,59 +1,28 @@
-// Where a cut falls among the children of a node. Relies on node's reader of children and on octets; specs/Point says what is sought.
-ghost use Rattle.std.specs.Prelude.{◌∷◌, [], ◌≤◌, ◌<◌, length};
-ghost use Rattle.node.specs.Places.{Within, part};
-ghost use Rattle.node.specs.Entries.{listed};
-ghost use Rattle.node.specs.Search.Own.{branch, branches_among};
-ghost use Rattle.slice.specs.Point.{point_of, CutAs};
+// Where a cut falls among the children of a node. Relies on node's children and on octets; specs/Point says what is sought.
+ghost use Rattle.std.specs.Prelude.{◌≡◌};
+ghost use Rattle.node.specs.Spans.{pending_of};
+ghost use Rattle.slice.specs.Point.{point_of, Held};
+ghost use Rattle.slice.specs.Right.{rest_of};
 
-use crate::Cut;
-use node::Place;
-use node::search::Pending;
+use node::branches::{Branch, Branches};
 
-// The last child, which is the n-th.
-fn last_point(node: &[u8], n: usize, num: usize, low: Place, hi: &[u8], k: &[u8]) -> Cut
-    requires { Within 0 (length node.now) low × (n < 65536) }
-    ensures { CutAs node.now hi.now (point_of n (branch num (part node.now low) ∷ []) hi.now k.now) result }
+// The child that holds a cut k strictly inside, and the children from the cut on but for that one.
+pub fn split_children<'a>(children: Branches<'a>, k: &[u8]) -> (Option<Branch<'a>>, Branches<'a>)
+    ensures { Held (point_of 0 (pending_of children.entry) children.entry.high.now k.now) result.0
+        × (pending_of result.1 ≡ rest_of (pending_of children.entry) children.entry.high.now k.now)
+        × (result.1.high.now ≡ children.entry.high.now) }
 {
-    if !octets::precedes(k, hi) {
-        return Cut::Nowhere(n + 1);
-    }
-    let a = low.start;
-    let b = low.stop;
-    if octets::precedes(&node[a..b], k) {
-        return Cut::Last(n, num, low);
-    }
-    Cut::Between(n, low)
-}
-
-// The first child that ends after the cut.
-pub fn find_point(node: &[u8], stop: usize, hi: &[u8], k: &[u8]) -> Cut
-    requires { (stop ≤ length node.now) × (length node.now ≤ 1024) }
-    ensures { CutAs node.now hi.now (point_of 0 (branches_among (listed node.now 8 stop)) hi.now k.now) result }
-{
-    let Pending::Child(first, pivot, start) = node::search::first_child(node, stop) else {
-        return Cut::Nowhere(0);
-    };
-    let mut c = start;
-    let mut num = first;
-    let mut low = pivot;
-    let mut n: usize = 0;
+    let mut behind = children;
     loop {
-        let Pending::Child(j, p, next) = node::search::read_child(node, c) else {
-            return last_point(node, n, num, low, hi, k);
+        let here = behind;
+        let Some(child) = behind.next() else {
+            return (None, here);
         };
-        let x = p.start;
-        let y = p.stop;
-        if octets::precedes(k, &node[x..y]) {
-            let a = low.start;
-            let b = low.stop;
-            if octets::precedes(&node[a..b], k) {
-                return Cut::Inner(n, num, low, p);
+        if octets::precedes(k, child.high) {
+            if octets::precedes(child.low, k) {
+                return (Some(child), behind);
             }
-            return Cut::Between(n, low);
+            return (None, here);
         }
-        num = j;
-        low = p;
-        c = next;
-        n += 1;
     }
 }

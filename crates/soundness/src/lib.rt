@@ -16,18 +16,15 @@ pub fn judge(store: &[u8], seen: &mut [u8; 1024]) -> Option<Tally>
     ensures { Judged store.now result seen.new }
 {
     let tally = tree_check::check_tree(store, seen)?;
-    let told = node::header::read_live(store);
-    if tally.messages == 0 {
-        if tally.pairs == told {
-            return Some(tally);
-        }
+    let live = if tally.messages == 0 {
+        tally.pairs
+    } else {
+        live_count::count_paths(store)
+    };
+    if live != node::header::read_live(store) {
         return None;
     }
-    let counted = live_count::count_paths(store);
-    if counted == told {
-        return Some(tally);
-    }
-    None
+    Some(tally)
 }
 
 // Whether an image is sound.

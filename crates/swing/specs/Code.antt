@@ -1,13 +1,13 @@
 -- The steps of the code of a swing, one law for each call and each way out. Relies on Cuts and Root (what is asked and written) and on octets' Put.
 use Rattle.std.specs.Prelude.{ℕ, ◌+◌, ◌*◌, ◌-◌, ◌≤◌, ◌<◌, ◌≡◌, refl, List, [], ◌∷◌, ◌++◌, Bool, true, false, length, take, drop, set, get_or}
-use Rattle.image.specs.Prelude.{sym, ap, ap₂, subst, ◌∙◌, arith, length-append}
-use Rattle.image.specs.Bytes.{u16, u16_bytes}
+use Rattle.image.specs.Prelude.{sym, ap, ap₂, subst, ◌∙◌, append_assoc, arith, length-append}
+use Rattle.image.specs.Bytes.{u16}
 use Rattle.image.specs.Entry.{child}
 use Rattle.image.specs.Image.{header_of, tree_at}
 use Rattle.image.specs.Sound.{highest}
 use Rattle.octets.specs.Put.{put, put_one, put-put, put-size}
-use Rattle.laws.specs.Encode.{bytes_of, child-size}
-use Rattle.laws.specs.Page.{page, branches_of, zeros_of}
+use Rattle.laws.specs.Encode.{bytes_of}
+use Rattle.laws.specs.Page.{page, branches_of}
 use Rattle.slice.specs.Slicing.Slice.{right_of}
 use Rattle.laws.specs.WriteNode.{write_node}
 use Rattle.append.specs.Laws.Append.{header-root}
@@ -20,7 +20,6 @@ use Rattle.slice.specs.Point.{fresh_in}
 use Rattle.slice.specs.Left.{LeftAsks}
 use Rattle.slice.specs.Right.{RightAsks, RightAs, pieces_in, raise_branches, all_line}
 use Rattle.slice.specs.GapSteps.{GapAsks}
-use Rattle.node.specs.Pages.{page-written}
 use Rattle.swing.specs.declared.root.Half.{Half}
 use Rattle.swing.specs.Cuts.{front, left_in, right_in, range_in, RangeAsks, RangeAs, high_in, BothAsks, BothAs, tail_in, out_in, OutAsks, taken_number, taken_bound, taken_out, TakeAsks, low_place}
 use Rattle.swing.specs.Root.{half_in, half_line, root_line, RootAsks}
@@ -172,40 +171,30 @@ pub half-made : (free : List ℕ) (place block : ℕ) (parts : Parts) (a b c : �
 unfolding half_in fresh_in
 half-made free place block parts a b c x y z = λ i. record { number = x i; edge = y i; rest = z i; parts = parts }
 
--- two puts, one behind the other
-then-put : (pg pg₁ pg₂ a b : List ℕ) (at e f : ℕ) → at + length a + length b ≤ length pg → pg₁ ≡ put pg at a → e ≡ at + length a → pg₂ ≡ put pg₁ e b → f ≡ e + length b
-    → (pg₂ ≡ put pg at (a ++ b)) × (f ≡ at + length (a ++ b))
-then-put pg pg₁ pg₂ a b at e f h q z r y = (
-  r ∙ ap₂ (λ l k. put l k b) q z ∙ put-put pg at a b h,
-  (let w = length-append a b in omega arith),
-)
-
-module _ (pg bound : List ℕ) (half : Half) (out : List ℕ) (at : ℕ) (room : at + length (half_line bound half out) ≤ length pg) where
+-- a half, behind what is on the page
+module _ (now bound : List ℕ) (half : Half) (out : List ℕ) (room : length now + length (half_line bound half out) ≤ 1016) where
   line-size : length (half_line bound half out) ≡ length (bytes_of (child half.number (front bound))) + length (all_line 0 (pieces_in half.edge half.rest bound out half.parts))
   unfolding half_line
   line-size = length-append (bytes_of (child half.number (front bound))) (all_line 0 (pieces_in half.edge half.rest bound out half.parts))
 
-  pub path_room : at + (6 + length (take (length bound - 1 - 0) (drop 0 bound))) ≤ length pg
-  path_room = let z = child-size half.number (front bound) in let l = line-size in let f = ap length (front-part bound) in omega arith
+  path-is : bytes_of (child half.number (take (length bound - 1 - 0) (drop 0 bound))) ≡ bytes_of (child half.number (front bound))
+  path-is = ap (λ q. bytes_of (child half.number q)) (front-part bound)
 
-  module _ (pg₁ : List ℕ) (to : ℕ) (w : pg₁ ≡ put pg at (bytes_of (child half.number (take (length bound - 1 - 0) (drop 0 bound)))))
-      (z : to ≡ at + (6 + length (take (length bound - 1 - 0) (drop 0 bound)))) where
-    put-path : pg₁ ≡ put pg at (bytes_of (child half.number (front bound)))
-    put-path = w ∙ ap (λ q. put pg at (bytes_of (child half.number q))) (front-part bound)
+  pub path_room : length now + length (bytes_of (child half.number (take (length bound - 1 - 0) (drop 0 bound)))) ≤ 1016
+  path_room = let z = ap length path-is in let l = line-size in omega arith
 
-    past-path : to ≡ at + length (bytes_of (child half.number (front bound)))
-    past-path = let y = child-size half.number (front bound) in let f = ap length (front-part bound) in omega arith
+  module _ (pg₁ : List ℕ) (w : pg₁ ≡ now ++ bytes_of (child half.number (take (length bound - 1 - 0) (drop 0 bound)))) where
+    path-put : pg₁ ≡ now ++ bytes_of (child half.number (front bound))
+    path-put = w ∙ ap (λ l. now ++ l) path-is
 
-    pub parts-room : to + length (all_line 0 (pieces_in half.edge half.rest bound out half.parts)) ≤ length pg
-    parts-room = let l = line-size in let p = past-path in omega arith
+    pub parts-room : length pg₁ + length (all_line 0 (pieces_in half.edge half.rest bound out half.parts)) ≤ 1016
+    parts-room = let l = line-size in let p = ap length path-put in let a = length-append now (bytes_of (child half.number (front bound))) in omega arith
 
-    pub half-done : (pg₂ : List ℕ) (end : ℕ) → pg₂ ≡ put pg₁ to (all_line 0 (pieces_in half.edge half.rest bound out half.parts))
-        → end ≡ to + length (all_line 0 (pieces_in half.edge half.rest bound out half.parts))
-        → (pg₂ ≡ put pg at (half_line bound half out)) × (end ≡ at + length (half_line bound half out))
+    pub half-done : (pg₂ : List ℕ) → pg₂ ≡ pg₁ ++ all_line 0 (pieces_in half.edge half.rest bound out half.parts) → pg₂ ≡ now ++ half_line bound half out
     unfolding half_line
-    half-done pg₂ end x y =
-        then-put pg pg₁ pg₂ (bytes_of (child half.number (front bound))) (all_line 0 (pieces_in half.edge half.rest bound out half.parts)) at to end
-        (let l = line-size in omega arith) put-path past-path x y
+    half-done pg₂ x =
+        x ∙ ap (λ l. l ++ all_line 0 (pieces_in half.edge half.rest bound out half.parts)) path-put
+        ∙ append_assoc now (bytes_of (child half.number (front bound))) (all_line 0 (pieces_in half.edge half.rest bound out half.parts))
 
 module _ (s : List ℕ) (h : ℕ) (bound limit free : List ℕ) (low : Half) (behind : List ℕ) (high : Half) (last : List ℕ) (pre : RootAsks s h bound limit free low behind high last)
     (left num : ℕ) (left_is : left ≡ get_or free (7 * h) 0) (num-is : num ≡ get_or free (10 * h) 0) where
@@ -220,42 +209,36 @@ module _ (s : List ℕ) (h : ℕ) (bound limit free : List ℕ) (low : Half) (be
   line-is : root_line (fresh_in free (7 * h)) bound low behind limit high last ≡ bytes_of (child left []) ++ (half_line bound low behind ++ half_line limit high last)
   line-is = ap (λ n. root_line n bound low behind limit high last) left-in ∙ (unfold root_line in refl)
 
-  sizes : 6 + (length (half_line bound low behind) + length (half_line limit high last)) ≤ 1016
+  sizes : length (bytes_of (child left [])) + (length (half_line bound low behind) + length (half_line limit high last)) ≤ 1016
   sizes =
       let a = ap length line-is in
       let b = length-append (bytes_of (child left [])) (half_line bound low behind ++ half_line limit high last) in
       let c = length-append (half_line bound low behind) (half_line limit high last) in
-      let d = child-size left [] in
       let e = pre.size in
       omega arith
 
-  module _ (pg₁ : List ℕ) (a : ℕ) (w₁ : pg₁ ≡ put (zeros_of 1024) 8 (bytes_of (child left []))) (z₁ : a ≡ 8 + (6 + 0)) (l₁ : length pg₁ ≡ 1024) where
-    pub low-room : a + length (half_line bound low behind) ≤ length pg₁
-    low-room = let e = sizes in omega arith
+  pub num-room : num * 1024 + 1024 ≤ length s
+  num-room = let r = pre.room in let n = num-in in omega arith
 
-    module _ (pg₂ : List ℕ) (b : ℕ) (w₂ : pg₂ ≡ put pg₁ a (half_line bound low behind)) (z₂ : b ≡ a + length (half_line bound low behind)) (l₂ : length pg₂ ≡ 1024) where
-      pub high-room : b + length (half_line limit high last) ≤ length pg₂
-      high-room = let e = sizes in omega arith
+  module _ (bare : List ℕ) (nil : bare ≡ []) where
+    pub left-room : length bare + length (bytes_of (child left [])) ≤ 1016
+    left-room = let e = sizes in let z = ap length nil in omega arith
 
-      module _ (pg₃ : List ℕ) (end : ℕ) (w₃ : pg₃ ≡ put pg₂ b (half_line limit high last)) (z₃ : end ≡ b + length (half_line limit high last)) where
-        pub end_fits : (8 ≤ end) × (end ≤ 1024)
-        end_fits = let e = sizes in (omega arith, omega arith)
+    module _ (pg₁ : List ℕ) (w₁ : pg₁ ≡ bare ++ bytes_of (child left [])) where
+      first_put : pg₁ ≡ bytes_of (child left [])
+      first_put = w₁ ∙ ap (λ l. l ++ bytes_of (child left [])) nil
 
-        pub num-room : num * 1024 + 1024 ≤ length s
-        num-room = let r = pre.room in let n = num-in in omega arith
+      pub low-room : length pg₁ + length (half_line bound low behind) ≤ 1016
+      low-room = let e = sizes in let z = ap length first_put in omega arith
 
-        pub root-done : (s' : List ℕ) → s' ≡ put s (num * 1024) (put (put (put pg₃ 0 (u16_bytes (end - 8))) 2 (u16_bytes 2)) 4 (u16_bytes (h + 1)))
+      module _ (pg₂ : List ℕ) (w₂ : pg₂ ≡ pg₁ ++ half_line bound low behind) where
+        pub high-room : length pg₂ + length (half_line limit high last) ≤ 1016
+        high-room = let e = sizes in let z = ap length first_put in let y = ap length w₂ in let a = length-append pg₁ (half_line bound low behind) in omega arith
+
+        pub root-done : (pg₃ : List ℕ) → pg₃ ≡ pg₂ ++ half_line limit high last → (s' : List ℕ) → s' ≡ write_node s num (page 2 (h + 1) pg₃)
             → s' ≡ write_node s (fresh_in free (10 * h)) (page 2 (h + 1) (root_line (fresh_in free (7 * h)) bound low behind limit high last))
-        root-done s' w =
-            let e = sizes in
-            let d = child-size left [] in
-            let halves = then-put pg₁ pg₂ pg₃ (half_line bound low behind) (half_line limit high last) a b end (omega arith) w₂ z₂ w₃ z₃ in
-            let c = length-append (half_line bound low behind) (half_line limit high last) in
-            let whole = then-put (zeros_of 1024) pg₁ pg₃ (bytes_of (child left [])) (half_line bound low behind ++ half_line limit high last) 8 a end
-            (zeros-size (8 + length (bytes_of (child left [])) + length (half_line bound low behind ++ half_line limit high last)) (omega arith)) w₁ (omega arith) halves.0 halves.1 in
-            page-written s s' pg₃ num 2 (h + 1) end (root_line (fresh_in free (7 * h)) bound low behind limit high last) pre.size
-            (whole.0 ∙ ap (put (zeros_of 1024) 8) (sym line-is)) (whole.1 ∙ ap (λ l. 8 + length l) (sym line-is)) w
-            ∙ ap (λ n. write_node s n (page 2 (h + 1) (root_line (fresh_in free (7 * h)) bound low behind limit high last))) (sym num-in)
-          where
-            zeros-size : (m : ℕ) → m ≤ 1024 → m ≤ length (zeros_of 1024)
-            zeros-size m q = unfold zeros_of in q
+        root-done pg₃ w₃ s' w =
+            let z : pg₃ ≡ root_line (fresh_in free (7 * h)) bound low behind limit high last =
+            w₃ ∙ ap (λ l. l ++ half_line limit high last) (w₂ ∙ ap (λ l. l ++ half_line bound low behind) first_put)
+            ∙ append_assoc (bytes_of (child left [])) (half_line bound low behind) (half_line limit high last) ∙ sym line-is in
+            w ∙ ap₂ (λ n l. write_node s n (page 2 (h + 1) l)) (sym num-in) z

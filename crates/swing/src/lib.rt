@@ -13,8 +13,8 @@ ghost use Rattle.slice.specs.Slicing.Range.{past};
 ghost use Rattle.swing.specs.Cuts.{RangeAsks, RangeAs, BothAsks, BothAs, OutAsks, out_in, TakeAsks, taken_out, low_place};
 ghost use Rattle.swing.specs.Plan.{SwingAsks, Swings, Plan, PastPlan, swung_over};
 
+use node::branches::Branch;
 use root::Halves;
-use slice::right::Sliced;
 use slice::{Parts, Slot};
 
 // The list of free nodes in blocks of h numbers, h the levels, so that no slice has to tell what it took: 0 what lies left of the end of the
@@ -52,25 +52,30 @@ fn cut_range(
     requires { RangeAsks store.old num slot.level hi.now bound.now slot.at free.now × (length out.old ≡ 1089) }
     ensures { RangeAs store.old num slot.level hi.now bound.now slot.at free.now store.new out.new result }
 {
-    let h = slot.level;
-    let at = slot.at;
-    let beside = at + h;
-    let below = at + 3 * h;
+    let Slot { level, at } = slot;
     let inner = free[at] as usize;
     let n = bound.len() - 1;
-    slice::slice_left(store, num, slot, &bound[0..0], hi, bound, free);
-    let right = Sliced {
-        num,
-        level: h,
-        at: beside,
-        wide: true,
+    let whole = Branch {
+        number: num,
+        low: &[],
+        high: hi,
     };
-    let parts = slice::right::slice_right(store, right, hi, bound, free, &bound[0..0], out);
+    slice::slice_left(store, whole, slot, bound, free);
+    let right = Slot {
+        level,
+        at: at + level,
+    };
+    let parts = slice::right::slice_right(store, whole, right, true, bound, free, out);
+    let range = Branch {
+        number: inner,
+        low: &[],
+        high: bound,
+    };
     let left = Slot {
-        level: h,
-        at: below,
+        level,
+        at: at + 3 * level,
     };
-    slice::slice_left(store, inner, left, &bound[0..0], bound, &bound[0..n], free);
+    slice::slice_left(store, range, left, &bound[0..n], free);
     parts
 }
 
@@ -121,26 +126,19 @@ fn take_out(store: &mut [u8], num: usize, h: usize, bound: &[u8], free: &[u16])
     requires { OutAsks store.old num h bound.now free.now }
     ensures { store.new ≡ out_in store.old num h bound.now free.now }
 {
-    let tail = 8 * h;
-    let gap = 9 * h;
     let n = bound.len() - 1;
     let mut out = [0u8; 1089];
-    let range = Sliced {
-        num,
-        level: h,
-        at: tail,
-        wide: false,
+    let range = Branch {
+        number: num,
+        low: &[],
+        high: bound,
     };
-    slice::right::slice_right(
-        store,
-        range,
-        bound,
-        &bound[0..n],
-        free,
-        &bound[0..0],
-        &mut out,
-    );
-    slice::gap::write_gap(store, h, &bound[0..n], bound, gap, free);
+    let tail = Slot {
+        level: h,
+        at: 8 * h,
+    };
+    slice::right::slice_right(store, range, tail, false, &bound[0..n], free, &mut out);
+    slice::gap::write_gap(store, h, &bound[0..n], bound, 9 * h, free);
 }
 
 // Takes out the range that moves: the lower one where the move goes up.

@@ -1,13 +1,13 @@
 // The new root of a move: what lies left of both ranges, then for each range the node under its path and the pieces behind it. It knows ends of
-// ranges and numbers only: the same for a move up and a move down. Relies on slice (the pieces), node's writer and octets.
-ghost use Rattle.std.specs.Prelude.{◌≡◌, ◌+◌, ◌*◌, ◌<◌, ◌≤◌, length};
-ghost use Rattle.octets.specs.Put.{put};
+// ranges and numbers only: the same for a move up and a move down. Relies on slice (the pieces) and on node's page.
+ghost use Rattle.std.specs.Prelude.{◌≡◌, ◌++◌, ◌+◌, ◌*◌, ◌<◌, ◌≤◌, length};
 ghost use Rattle.laws.specs.Page.{page};
 ghost use Rattle.laws.specs.WriteNode.{write_node};
 ghost use Rattle.slice.specs.Point.{fresh_in};
 ghost use Rattle.swing.specs.Root.{half_in, half_line, root_line, HalfFits, RootAsks};
 
-use node::writer;
+use node::entries::Entry;
+use node::page::Page;
 use slice::Parts;
 use slice::pieces::Numbered;
 
@@ -44,21 +44,19 @@ pub fn half_at(free: &[u16], place: usize, block: usize, parts: Parts) -> Half
     }
 }
 
-// The entries of a half. Gives the place behind them.
-fn emit_half(page: &mut [u8], at: usize, bound: &[u8], half: Half, out: &[u8]) -> usize
-    requires { HalfFits bound.now half out.now × (at + length (half_line bound.now half out.now) ≤ length page.old) × (length page.old ≤ 1024) }
-    ensures { (page.new ≡ put page.old at (half_line bound.now half out.now))
-        × (result ≡ at + length (half_line bound.now half out.now)) }
+// The entries of a half.
+fn emit_half(page: &mut Page, bound: &[u8], half: Half, out: &[u8])
+    requires { HalfFits bound.now half out.now × (length page.old + length (half_line bound.now half out.now) ≤ 1016) }
+    ensures { page.new ≡ page.old ++ half_line bound.now half out.now }
 {
     let n = bound.len() - 1;
-    let parts = half.parts;
-    let behind = writer::write_child(page, at, half.number, &bound[0..n]);
+    page.push(Entry::Child(half.number, &bound[0..n]));
     let over = Numbered {
-        parts,
+        parts: half.parts,
         edge: half.edge,
         rest: half.rest,
     };
-    slice::pieces::emit_parts(page, behind, over, bound, out, 0)
+    slice::pieces::emit_parts(page, over, bound, out, 0);
 }
 
 // The new root, as the last of the free nodes that a move takes.
@@ -83,16 +81,9 @@ pub fn write_root(
     let high = halves.high;
     let num = free[10 * h] as usize;
     let left = free[7 * h] as usize;
-    let mut page = [0u8; 1024];
-    let a = writer::write_child(&mut page, image::ENTRIES_AT, left, &bound[0..0]);
-    let b = emit_half(&mut page, a, bound, low, behind);
-    let end = emit_half(&mut page, b, limit, high, last);
-    writer::write_page(
-        store,
-        num,
-        &mut page,
-        image::INTERIOR,
-        h + 1,
-        end - image::ENTRIES_AT,
-    );
+    let mut page = Page::new();
+    page.push(Entry::Child(left, &[]));
+    emit_half(&mut page, bound, low, behind);
+    emit_half(&mut page, limit, high, last);
+    page.write(store, num, image::INTERIOR, h + 1);
 }

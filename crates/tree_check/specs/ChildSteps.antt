@@ -1,6 +1,6 @@
 -- The exits of the check of a child, of the children that follow it, and of the messages after them.
 -- Relies on the walk over an interior node's entries (Node/Inside) and on Sequence.
-use Rattle.std.specs.Prelude.{ℕ, ◌-◌, ◌≡◌, refl, List, [], ◌∷◌, Bool, true, false, ◌&&◌, cond, length, take, drop, None, Some}
+use Rattle.std.specs.Prelude.{ℕ, ◌-◌, ◌≡◌, refl, List, [], ◌∷◌, Bool, true, false, cond, length, take, drop, None, Some}
 use Rattle.image.specs.Prelude.{sym, ap, ap₂, ◌∙◌, Option, none, some, arith}
 use Rattle.image.specs.Bytes.{before, shared}
 use Rattle.image.specs.Path.{owns}
@@ -13,7 +13,7 @@ use Rattle.octets.specs.Beginnings.{take_part}
 use Rattle.laws.specs.Reading.Visit.{onward, visit}
 use Rattle.node.specs.Entries.{list_of}
 use Rattle.lookup.specs.Look.{part-rest}
-use Rattle.tree_check.specs.Node.Inside.{messages_run, child_run, branches_list, branches_run, branches-step, branches-end, onward-some, onward-none}
+use Rattle.tree_check.specs.Node.Inside.{messages_run, child_run, branches_list, branches_run, branches-step, onward-some, onward-none}
 use Rattle.tree_check.specs.declared.Tally.{Tally}
 use Rattle.octets.specs.Cap.{cap}
 use Rattle.tree_check.specs.Count.{Count, plus, count_of, only_messages, last_count, branches_count, tally_sum}

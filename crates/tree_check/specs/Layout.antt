@@ -1,12 +1,13 @@
 -- The layout of a node and of node 0, read at its place in the store.
 -- Relies on image's layout (Image) and on lookup's laws of a node's bytes.
-use Rattle.std.specs.Prelude.{ℕ, suc, ◌+◌, ◌-◌, ◌*◌, ◌/◌, ◌<◌, ◌≤◌, ◌≡◌, refl, List, ◌∷◌, Bool, true, false, ◌&&◌, length, take, drop, get_or, leb, eqb}
-use Rattle.image.specs.Prelude.{sym, ap, ap₂, ◌∙◌, and-true, none, some, arith, drop-cons, le-leb, lt-leb, eq-eqb, ne_eqb, eqb-true, add-one}
+use Rattle.std.specs.Prelude.{ℕ, suc, ◌+◌, ◌*◌, ◌/◌, ◌<◌, ◌≤◌, ◌≡◌, refl, List, ◌∷◌, Bool, true, false, ◌&&◌, length, drop, get_or, leb, eqb, max}
+use Rattle.image.specs.Prelude.{sym, ap, ap₂, ◌∙◌, and-true, none, arith, drop-cons, le-leb, lt-leb, eq-eqb, ne_eqb, eqb-true, eqb-false, add-one}
+use Rattle.std.proofs.lemmas.List.{drop_all}
 use Rattle.image.specs.Bytes.{u16, zeros}
 use Rattle.image.specs.Entry as defined
 use Rattle.image.specs.Image.{node_bytes, nodes_of, laid_out, node_entries}
-use Rattle.octets.specs.Order.{and-false, and_assoc}
-use Rattle.node.specs.Cut.{cut, cut-drop, cut-u16, cut-nil}
+use Rattle.octets.specs.Order.{and_assoc}
+use Rattle.node.specs.Cut.{cut, cut-drop, cut-u16}
 use Rattle.node.specs.Whole.{HasEntries}
 use Rattle.lookup.specs.Look.{node-is, count-is, bytes-is, laid-short as look-short}
 
@@ -15,37 +16,28 @@ pub nodes-are : (n : ℕ) → n / 1024 ≡ nodes_of n
 unfolding nodes_of
 nodes-are n = refl
 
--- zeros from a place up to another, a byte at a time
-module _ (s : List ℕ) (at end : ℕ) where
-  pub zeros-end : end ≤ at → zeros (cut s at end) ≡ true
-  unfolding zeros
-  zeros-end h = rw (cut-nil s at end h)
-
-  cut-cons : at < end → end ≤ length s → cut s at end ≡ get_or s at 0 ∷ cut s (at + 1) end
-  cut-cons h k =
-      let e : end - at ≡ suc (end - (at + 1)) = omega arith in
-      let d : drop at s ≡ get_or s at 0 ∷ drop (suc at) s = drop-cons s at 0 (omega arith) in
-      rw (e, d) (ap (λ n. get_or s at 0 ∷ take (end - (at + 1)) (drop n s)) (sym (add-one at)))
-
-  pub zeros-on : (answer b c : Bool) → at < end → end ≤ length s → c ≡ (b && eqb (get_or s at 0) 0) → b && zeros (cut s at end) ≡ answer → c && zeros (cut s (at + 1) end) ≡ answer
-  unfolding zeros
-  zeros-on answer b c h k e inv =
-      let w : b && (eqb (get_or s at 0) 0 && zeros (cut s (at + 1) end)) ≡ answer = rw (cut-cons h k) at inv in
-      ap (λ x. x && zeros (cut s (at + 1) end)) e ∙ and_assoc b (eqb (get_or s at 0) 0) (zeros (cut s (at + 1) end)) ∙ w
-
-  pub zeros-done : (answer b : Bool) → end ≤ at → b && zeros (cut s at end) ≡ answer → b ≡ answer
-  zeros-done answer b h inv = sym (ap (λ x. b && x) (zeros-end h) ∙ and-true b) ∙ inv
-
--- the larger of two bytes is zero if both are
-pub larger-second : (a b : ℕ) → a < b → eqb b 0 ≡ (eqb a 0 && eqb b 0)
-larger-second a b h = let n : eqb b 0 ≡ false = ne_eqb b 0 (λ z. omega arith) in rw n (sym (and-false (eqb a 0)))
-
-pub larger-first : (a b : ℕ) → b ≤ a → eqb a 0 ≡ (eqb a 0 && eqb b 0)
-larger-first a b h = go (eqb a 0) refl
+-- bytes are all zero where the largest is
+max-zero : (a b : ℕ) → eqb (max a b) 0 ≡ (eqb a 0 && eqb b 0)
+max-zero a b = go (eqb a 0) refl (eqb b 0) refl
   where
-    go : (x : Bool) → eqb a 0 ≡ x → eqb a 0 ≡ (eqb a 0 && eqb b 0)
-    go true e = let z : a ≡ 0 = eqb-true a 0 e in let y : eqb b 0 ≡ true = eq-eqb b 0 (omega arith) in rw (e, y)
-    go false e = rw e
+    go : (x : Bool) → eqb a 0 ≡ x → (y : Bool) → eqb b 0 ≡ y → eqb (max a b) 0 ≡ (eqb a 0 && eqb b 0)
+    go true e true f = let p = eqb-true a 0 e in let q = eqb-true b 0 f in rw (e, f) (eq-eqb (max a b) 0 (omega arith))
+    go true e false f = let q = eqb-false b 0 f in rw (e, f) (ne_eqb (max a b) 0 (λ z. q (omega arith)))
+    go false e y f = let q = eqb-false a 0 e in rw e (ne_eqb (max a b) 0 (λ z. q (omega arith)))
+
+module _ (s : List ℕ) (i : ℕ) where
+  pub zeros-on : (most next : ℕ) → i < length s → next ≡ max most (get_or s i 0) → (eqb most 0 && zeros (drop i s)) ≡ zeros s → (eqb next 0 && zeros (drop (i + 1) s)) ≡ zeros s
+  unfolding zeros
+  zeros-on most next h e inv =
+      let d : drop i s ≡ get_or s i 0 ∷ drop (suc i) s = drop-cons s i 0 h in
+      let w : eqb most 0 && (eqb (get_or s i 0) 0 && zeros (drop (suc i) s)) ≡ zeros s = ap (λ l. eqb most 0 && zeros l) (sym d) ∙ inv in
+      ap₂ (λ n k. eqb n 0 && zeros (drop k s)) e (add-one i)
+      ∙ ap (λ x. x && zeros (drop (suc i) s)) (max-zero most (get_or s i 0))
+      ∙ and_assoc (eqb most 0) (eqb (get_or s i 0) 0) (zeros (drop (suc i) s)) ∙ w
+
+  pub zeros-done : (most : ℕ) → length s ≤ i → (eqb most 0 && zeros (drop i s)) ≡ zeros s → eqb most 0 ≡ zeros s
+  unfolding zeros
+  zeros-done most h inv = sym (ap (λ l. eqb most 0 && zeros l) (drop_all i s h) ∙ and-true (eqb most 0)) ∙ inv
 
 -- A node in the store: each test that may fail, and all of them.
 module _ (s : List ℕ) (i kind level : ℕ) (inside : i * 1024 + 1024 ≤ length s) where

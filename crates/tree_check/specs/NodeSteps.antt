@@ -1,8 +1,7 @@
 -- The exits of the check of a node.
 -- Relies on Walk, First and Sequence.
-use Rattle.std.specs.Prelude.{ℕ, zero, suc, ◌-◌, ◌<◌, ◌≤◌, ◌≡◌, refl, List, Bool, true, false, cond, length, get_or, set, None, Some}
+use Rattle.std.specs.Prelude.{ℕ, zero, suc, ◌-◌, ◌<◌, ◌≤◌, ◌≡◌, refl, List, true, false, cond, length, get_or, set, None, Some}
 use Rattle.image.specs.Prelude.{sym, ap, ◌∙◌, Option, none, some, arith}
-use Rattle.image.specs.Bytes.{same}
 use Rattle.image.specs.Entry as defined
 use Rattle.image.specs.Image.{Tree, node_bytes, nodes_of, node_entries, inside_of, or_none, interior_of, tree_at}
 use Rattle.path.specs.Shape.{Shape}
@@ -11,7 +10,6 @@ use Rattle.laws.specs.Reading.SoundHere.{sound_here}
 use Rattle.laws.specs.Reading.Visit.{unmet, visit}
 use Rattle.node.specs.Entries.{list_of, all_listed}
 use Rattle.tree_check.specs.Node.Inside.{branches_run}
-use Rattle.tree_check.specs.declared.Tally.{Tally}
 use Rattle.tree_check.specs.Count.{Count, plus, count_of, only_node, branches_count, capped}
 use Rattle.tree_check.specs.CountLaws.{node-capped}
 use Rattle.tree_check.specs.Answer.{Checked, Checks, unsound, all_sound, unsound-is, sound-is, tally-is, checks-as}

@@ -1,7 +1,7 @@
 -- The exits of the check of node 0 and of the check of an image.
 -- Relies on Whole, and on laws/Reading's law of the walk from the root with no mark set (`visit-root`).
 use Rattle.std.specs.Prelude.{ℕ, ◌+◌, ◌*◌, ◌<◌, ◌≤◌, ◌≡◌, refl, List, [], ◌∷◌, Bool, true, false, ◌&&◌, ◌||◌, cond, length, drop, get_or, set, ltb, leb, eqb, is_some, None, Some}
-use Rattle.image.specs.Prelude.{sym, ap, ap₂, subst, ◌∙◌, and-true, none, some, arith, length-set, length-replicate, get_or-set_same, get_or-set_other, ext_get_or, lt-ltb, le-ltb, le-leb, lt-leb, eq-eqb, ne_eqb, eqb-true, eqb-false, ltb-true}
+use Rattle.image.specs.Prelude.{sym, ap, ap₂, subst, ◌∙◌, and-true, none, some, arith, length-set, length-replicate, get_or-set_same, get_or-set_other, lt-ltb, le-ltb, le-leb, lt-leb, eq-eqb, ne_eqb, eqb-true, eqb-false, ltb-true}
 use Rattle.image.specs.Bytes.{u16, zeros}
 use Rattle.image.specs.Image.{Tree, node_bytes, nodes_of, header, header_of, header_laid_out, tree_at, tree_of}
 use Rattle.image.specs.Sound.{sound_tree, sound_header, once, in_range, numbers, is_in, lowest, highest}
@@ -98,24 +98,6 @@ module _ (s : List ℕ) (long : 1024 ≤ length s) (n : ℕ) (en : n ≡ nodes_o
 
                 all_yes : (z : Bool) → B ≡ true
                 all_yes z = rw (eq-eqb count n c, le-leb 1 root r, lt-ltb root n q, le-leb 1 levels l, le-leb levels 8 m, le-leb live n h)
-
--- zeroing a list, a byte at a time
-pub zero-next : (l : List ℕ) (i : ℕ) → i < length l → ((k : ℕ) → k < i → get_or l k 0 ≡ 0) → (k : ℕ) → k < i + 1 → get_or (set l i 0) k 0 ≡ 0
-zero-next l i h f k lt = go (eqb k i) refl
-  where
-    go : (b : Bool) → eqb k i ≡ b → get_or (set l i 0) k 0 ≡ 0
-    go true e = let q : k ≡ i = eqb-true k i e in ap (λ j. get_or (set l i 0) j 0) q ∙ get_or-set_same l i 0 0 h
-    go false e =
-        let d : k ≡ i → ⊥ = eqb-false k i e in
-        get_or-set_other l i k 0 0 d ∙ f k (below k i lt d)
-      where
-        below : (k i : ℕ) → k < i + 1 → (k ≡ i → ⊥) → k < i
-        below k i a b = omega arith
-
-pub zeroed : (l : List ℕ) (m : ℕ) → length l ≡ m → ((k : ℕ) → k < m → get_or l k 0 ≡ 0) → l ≡ blank m
-zeroed l m e f =
-    let b : length (blank m) ≡ m = length-replicate {A = ℕ} m 0 in
-    ext_get_or 0 l (blank m) (e ∙ sym b) (λ i h. f i (omega arith) ∙ sym (zero-at m i))
 
 -- a mark for each number, and no other
 pub marked-at : (n : ℕ) (seen is : List ℕ) → n ≤ length seen → in_range n is ≡ true → (j : ℕ) → get_or (mark_all seen is) j 0 ≡ cond (is_in j is) 1 (get_or seen j 0)

@@ -1,10 +1,9 @@
 // The headers of nodes: whether node 0 is as the length of the store asks for, and whether a node is laid out as one of a kind and level.
 // Relies on node's reader of headers and on octets; what a node's entries say is node_check's matter.
-ghost use Rattle.std.specs.Prelude.{◌≡◌, ◌&&◌, ◌≤◌, length, eqb};
+ghost use Rattle.std.specs.Prelude.{◌≡◌, ◌≤◌, length};
 ghost use Rattle.image.specs.Bytes.{zeros};
 ghost use Rattle.image.specs.Image.{nodes_of, node_bytes, laid_out};
 ghost use Rattle.laws.specs.ButLive.{sound_head};
-ghost use Rattle.node.specs.Cut.{cut};
 ghost use Rattle.node.specs.Whole.{HasNode};
 
 // How many nodes the store has room for.
@@ -14,25 +13,13 @@ pub fn node_count(store: &[u8]) -> usize
     store.len() / image::NODE_SIZE
 }
 
-fn larger(a: u8, b: u8) -> u8
-    ensures { eqb result 0 ≡ (eqb a 0 && eqb b 0) }
+// Whether every byte is zero: whether the largest is. No byte ends the loop, so that many are read at once.
+pub fn all_zero(bytes: &[u8]) -> bool
+    ensures { result ≡ zeros bytes.now }
 {
-    if a < b {
-        return b;
-    }
-    a
-}
-
-// Whether every byte from a place up to another is zero: whether the largest is. No byte ends the loop, so that many are read at once.
-pub fn all_zero(s: &[u8], from: usize, end: usize) -> bool
-    requires { end ≤ length s.now }
-    ensures { result ≡ zeros (cut s.now from end) }
-{
-    let mut i = from;
     let mut most: u8 = 0;
-    while i < end {
-        most = larger(most, s[i]);
-        i += 1;
+    for &byte in bytes {
+        most = most.max(byte);
     }
     most == 0
 }
@@ -56,7 +43,7 @@ pub fn laid_out(store: &[u8], num: usize, kind: usize, level: usize) -> bool
     if octets::u16_at(store, at + 6) != 0 {
         return false;
     }
-    all_zero(store, at + image::ENTRIES_AT + len, at + image::NODE_SIZE)
+    all_zero(&store[at + image::ENTRIES_AT + len..at + image::NODE_SIZE])
 }
 
 // Whether node 0 is laid out, and its numbers are in the range that a store of this length asks for.
@@ -95,5 +82,5 @@ pub fn header_good(store: &[u8]) -> bool
     if n < live {
         return false;
     }
-    all_zero(store, 12, image::NODE_SIZE)
+    all_zero(&store[12..image::NODE_SIZE])
 }

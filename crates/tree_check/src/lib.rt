@@ -79,7 +79,12 @@ pub fn read_child(bytes: &[u8]) -> Option<(usize, &[u8], &[u8])>
 }
 
 // The first child of an interior node of the store, if its pivot is the node's low one, and the entries behind it.
-pub fn first_child<'a>(store: &'a [u8], num: usize, level: usize, lo: &[u8]) -> Option<(usize, &'a [u8])>
+pub fn first_child<'a>(
+    store: &'a [u8],
+    num: usize,
+    level: usize,
+    lo: &[u8],
+) -> Option<(usize, &'a [u8])>
     requires { HasNode store.now num }
     ensures { MatchOption result (NoFirst store.now num level lo.now) (λ p. FirstOf store.now num level lo.now p.0 p.1.now) }
 {
@@ -239,13 +244,5 @@ pub fn check_tree(store: &[u8], seen: &mut [u8; 1024]) -> Option<Tally>
     seen.fill(0);
     let root = node::header::read_root(store);
     let levels = node::header::read_levels(store);
-    check_node(
-        store,
-        root,
-        levels,
-        &[],
-        &[255],
-        path::start(),
-        seen,
-    )
+    check_node(store, root, levels, &[], &[255], path::start(), seen)
 }

@@ -76,7 +76,9 @@ pub fn message_good(message: Message, lo: &[u8], hi: &[u8], sh: Shape) -> bool
 {
     match message {
         Message::Put(key, value) => {
-            value.len() <= image::VALUE_LIMIT && octets::owned(lo, hi, key) && path::goes_on(sh, key)
+            value.len() <= image::VALUE_LIMIT
+                && octets::owned(lo, hi, key)
+                && path::goes_on(sh, key)
         }
         Message::Drop(key) => octets::owned(lo, hi, key) && path::goes_on(sh, key),
         Message::Clear(key) => key.is_empty() || path::goes_on(sh, key),

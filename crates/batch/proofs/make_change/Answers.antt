@@ -1,39 +1,40 @@
--- `batch::make_change` meets its contract. Relies on specs/Steps.
-use Rattle.batch.specs.Steps.{two-within, drop-within, clear_within, move-within, made-put, made-drop, made-clear, made_move, made-settle, made_tidy, made-flush, made-heal}
+-- `batch::make_change` meets its contract, change by change. Relies on specs/Steps.
+use Rattle.batch.specs.Steps.{served-act, served-meets, served-keeps}
+use Rattle.edit.specs.Room.{unmarked-so}
 use Rattle.batch.proofs.make_change.Goals as goal
 
-pub put_piece-requires : goal.put_piece-requires
-put_piece-requires c = let h = two-within _ _ c.requires.1 _ _ c.in-Put.is in (c.requires.0, h.0, h.1)
+pub put_fit-requires : goal.put_fit-requires
+put_fit-requires c = (c.requires.passed, unmarked-so _ _)
 
-pub drop_piece-requires : goal.drop_piece-requires
-drop_piece-requires c = (c.requires.0, drop-within _ _ c.requires.1 _ c.in-Drop.is)
+pub drop_fit-requires : goal.drop_fit-requires
+drop_fit-requires c = (c.requires.passed, unmarked-so _ _)
 
-pub clear_piece-requires : goal.clear_piece-requires
-clear_piece-requires c = (c.requires.0, clear_within _ _ c.requires.1 _ c.in-Clear.is)
+pub clear_fit-requires : goal.clear_fit-requires
+clear_fit-requires c = (c.requires.passed, unmarked-so _ _)
 
-pub move_piece-requires : goal.move_piece-requires
-move_piece-requires c = let h = move-within _ _ c.requires.1 _ _ c.in-Move.is in (c.requires.0, h.0, h.1)
+pub settle_fit-requires : goal.settle_fit-requires
+settle_fit-requires c = (c.requires.passed, c.mark_nodes-quiet-in-Settle.ensures.1)
 
 pub returns-in-Put : goal.returns-in-Put
-returns-in-Put c = made-put _ _ c.args.calls.now _ _ _ _ _ _ c.in-Put.is c.put_piece.ensures
+returns-in-Put c = rw c.in-Put.is (served-act _ _ _ _ c.requires _ _ c.put_fit.ensures)
 
 pub returns-in-Drop : goal.returns-in-Drop
-returns-in-Drop c = made-drop _ _ c.args.calls.now _ _ _ _ _ c.in-Drop.is c.drop_piece.ensures
+returns-in-Drop c = rw c.in-Drop.is (served-act _ _ _ _ c.requires _ _ c.drop_fit.ensures)
 
 pub returns-in-Clear : goal.returns-in-Clear
-returns-in-Clear c = made-clear _ _ c.args.calls.now _ _ _ _ _ c.in-Clear.is c.clear_piece.ensures
+returns-in-Clear c = rw c.in-Clear.is (served-act _ _ _ _ c.requires _ _ c.clear_fit.ensures)
 
 pub returns-in-Move : goal.returns-in-Move
-returns-in-Move c = made_move _ _ c.args.calls.now _ _ _ _ _ _ c.in-Move.is c.move_piece.ensures
+returns-in-Move c = rw c.in-Move.is (served-meets _ _ _ _ c.requires _ _ c.move_fit.ensures)
 
 pub returns-in-Settle : goal.returns-in-Settle
-returns-in-Settle c = made-settle _ _ c.args.calls.now _ _ _ _ c.in-Settle.is c.settle_piece.ensures
+returns-in-Settle c = rw c.in-Settle.is (served-meets _ _ _ _ c.requires _ _ c.settle_fit.ensures)
 
 pub returns-in-Tidy : goal.returns-in-Tidy
-returns-in-Tidy c = made_tidy _ _ c.args.calls.now _ _ _ _ c.in-Tidy.is c.tidy_piece.ensures
+returns-in-Tidy c = rw c.in-Tidy.is (served-meets _ _ _ _ c.requires _ _ c.tidy_fit.ensures)
 
 pub returns-in-Flush : goal.returns-in-Flush
-returns-in-Flush c = made-flush _ _ c.args.calls.now _ _ _ _ _ c.in-Flush.is c.flush_piece.ensures
+returns-in-Flush c = rw c.in-Flush.is (served-keeps _ _ _ _ c.requires _ _ _ c.flush_fit.ensures)
 
 pub returns-in-Heal : goal.returns-in-Heal
-returns-in-Heal c = made-heal _ _ c.args.calls.now _ _ _ _ _ c.in-Heal.is c.heal_piece.ensures
+returns-in-Heal c = rw c.in-Heal.is (served-keeps _ _ _ _ c.requires _ _ _ c.heal_fit.ensures)

@@ -1,28 +1,20 @@
 -- `batch::take_turn` meets its contract. Relies on specs/Steps.
-use Rattle.batch.specs.Steps.{reads-piece, change-within, query-within, turn-none, turn-full, turn-narrow, turn-change, turn-query}
+use Rattle.batch.specs.Steps.{first-is, turn-none, turn-full, turn-narrow, turn-change, turn-query}
+use Rattle.requests.specs.Pieces.{requests_left}
 use Rattle.image.specs.Prelude.{arith}
 use Rattle.batch.proofs.take_turn.Goals as goal
 
-pub returns-then-answers-written-lt-ANSWER_HEAD : goal.returns-then-answers-written-lt-ANSWER_HEAD
-returns-then-answers-written-lt-ANSWER_HEAD c = turn-full c.args.calls.now _ _ (reads-piece _ _ _ c.in_ok-reading.ensures) _ _ _ _ _ c.in-Change.is (omega arith)
+pub returns-in_err-change : goal.returns-in_err-change
+returns-in_err-change c = rw c.from_residual.ensures (turn-none _ _ _ _ _ (requests_left c.next.new.self) c.in_err-change.ensures.steps.0)
 
-pub waiting_of-waiting-requires : goal.waiting_of-waiting-requires
-waiting_of-waiting-requires c = (reads-piece _ _ _ c.in_ok-reading.ensures).high
+pub returns-then-room-lt-ANSWER_HEAD : goal.returns-then-room-lt-ANSWER_HEAD
+returns-then-room-lt-ANSWER_HEAD c = turn-full _ _ _ _ _ _ _ (first-is _ _ _ _ c.in_ok-change.ensures.steps c.in-Change.is) (omega arith)
 
-pub make_change-outcome-requires : goal.make_change-outcome-requires
-make_change-outcome-requires c = (c.requires.0, change-within c.args.calls.now _ _ (reads-piece _ _ _ c.in_ok-reading.ensures) _ c.in-Change.is)
+pub returns-then-room-most_bytes : goal.returns-then-room-most_bytes
+returns-then-room-most_bytes c = turn-narrow _ _ _ _ _ _ _ (first-is _ _ _ _ c.in_ok-change.ensures.steps c.in-Query.is) (omega (arith, c.most_bytes.ensures))
 
-pub returns-then-answers-written : goal.returns-then-answers-written
-returns-then-answers-written c = turn-narrow c.args.calls.now _ _ (reads-piece _ _ _ c.in_ok-reading.ensures) _ _ _ _ _ c.in-Query.is _ c.most_bytes.ensures c.if-answers-written.true
+pub returns-else-room-lt-ANSWER_HEAD : goal.returns-else-room-lt-ANSWER_HEAD
+returns-else-room-lt-ANSWER_HEAD c = turn-change _ _ _ _ _ _ _ (first-is _ _ _ _ c.in_ok-change.ensures.steps c.in-Change.is) (omega arith) _ _ _ _ _ c.make_change-outcome.ensures c.write_outcome.ensures
 
-pub answer_query-behind-requires : goal.answer_query-behind-requires
-answer_query-behind-requires c = (c.requires.0.passed.whole, c.requires.0.passed.is_sound, query-within c.args.calls.now _ _ (reads-piece _ _ _ c.in_ok-reading.ensures) _ c.in-Query.is, omega (arith, c.most_bytes.ensures, c.requires.2))
-
-pub returns-in_err-reading : goal.returns-in_err-reading
-returns-in_err-reading c = rw c.from_residual.ensures (turn-none c.args.calls.now _ _ _ _ _ c.in_err-reading.ensures)
-
-pub returns-else-answers-written-lt-ANSWER_HEAD : goal.returns-else-answers-written-lt-ANSWER_HEAD
-returns-else-answers-written-lt-ANSWER_HEAD c = turn-change c.args.calls.now _ _ (reads-piece _ _ _ c.in_ok-reading.ensures) _ _ _ _ _ c.in-Change.is (omega arith) c.requires.2 _ _ _ _ _ c.make_change-outcome.ensures c.write_outcome-behind.ensures
-
-pub returns-else-answers-written : goal.returns-else-answers-written
-returns-else-answers-written c = turn-query c.args.calls.now _ _ (reads-piece _ _ _ c.in_ok-reading.ensures) _ _ _ _ _ c.in-Query.is _ c.most_bytes.ensures (omega arith) _ _ c.answer_query-behind.ensures
+pub returns-else-room-most_bytes : goal.returns-else-room-most_bytes
+returns-else-room-most_bytes c = turn-query _ _ _ _ _ _ _ (first-is _ _ _ _ c.in_ok-change.ensures.steps c.in-Query.is) (omega (arith, c.most_bytes.ensures)) _ _ c.answer_query.ensures

@@ -4,7 +4,6 @@ use Rattle.std.specs.List.{list_all}
 use Rattle.image.specs.Bytes.{same, before, begins}
 use Rattle.image.specs.Path.{owns}
 use Rattle.image.specs.Entry as defined
-use Rattle.image.specs.Meaning.{says_of}
 use Rattle.node.specs.Search.Latest.{entry_says, covers}
 use Rattle.live_count.specs.declared.notes.Note.{Note}
 use Rattle.live_count.specs.declared.notes.Keys.{Keys}
@@ -43,10 +42,7 @@ Unconcerned n w = (k : List ℕ) → owns w.low.now w.high.now k ≡ true → no
 abbrev pub Concerns : Note → Keys → Note → Type 0
 Concerns n w v = (k : List ℕ) → owns w.low.now w.high.now k ≡ true → note_covers n (w.after.now ++ k) ≡ note_covers v k
 
--- a message, an entry, and entries, none of which is on a rest
-abbrev pub not_covers : defined.Message → List ℕ → Bool
-not_covers m r = not (covers (says_of m r))
-
+-- an entry, and entries, none of which is on a rest
 abbrev pub entry_not_covers : defined.Entry → List ℕ → Bool
 entry_not_covers e r = not (covers (entry_says e r))
 

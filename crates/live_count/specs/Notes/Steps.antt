@@ -1,11 +1,10 @@
 -- Step lemmas of the functions that note the messages of a node, and of those that hold entries against a rest.
-use Rattle.std.specs.Prelude.{ℕ, ◌+◌, ◌<◌, ◌≡◌, refl, List, [], ◌∷◌, ◌++◌, Bool, true, false, ◌&&◌, not, length, take, get_or, IsSome}
+use Rattle.std.specs.Prelude.{ℕ, ◌≡◌, refl, List, [], ◌∷◌, ◌++◌, Bool, true, false, ◌&&◌, not, IsSome}
 use Rattle.image.specs.Prelude.{sym, ap, ◌∙◌, and-true}
 use Rattle.image.specs.Path.{owns}
 use Rattle.image.specs.Entry as defined
 use Rattle.image.specs.Meaning.{Said, nothing, says, newer}
 use Rattle.octets.specs.Order.{and_assoc}
-use Rattle.std.proofs.lemmas.List.Folds.{list_all_more}
 use Rattle.node.specs.Lent.{entry_is}
 use Rattle.node.specs.Search.Latest.{newest_among, entry_says, covers}
 use Rattle.node.specs.Search.Messages.{is_message, has_message}
@@ -14,7 +13,7 @@ use Rattle.node.specs.declared.entries.Message.{Message}
 use Rattle.live_count.specs.declared.notes.Note.{Note}
 use Rattle.live_count.specs.declared.notes.Notes.{Notes}
 use Rattle.live_count.specs.Live.{holds_no_message}
-use Rattle.live_count.specs.Notes.Notes.{note_covers, quiet, silent, Gathered, entry_not_covers, none_covers, Uncovered, Same}
+use Rattle.live_count.specs.Notes.Notes.{note_covers, silent, Gathered, entry_not_covers, none_covers, Uncovered, Same}
 
 -- messages that say nothing cover nothing, one by one
 no-newer : (a b : Said) → holds_no_message (newer a b) ≡ not (covers a) && holds_no_message b
@@ -86,10 +85,7 @@ gathered-more lo hi first next both a b c f g h =
           ∙ and_assoc (silent a k) (first k) (next k) ∙ ap (λ x. silent a k && x) (sym (h k o));
     }
 
--- a note that is on none of the keys, or says of them what another does
-pub add-none : (lo hi after : List ℕ) (v : Note) (n : Notes) → ((k : List ℕ) → owns lo hi k ≡ true → note_covers v (after ++ k) ≡ false) → Gathered lo hi (λ k. not (note_covers v (after ++ k))) n n
-add-none lo hi after v n h = gathered-none lo hi (λ k. not (note_covers v (after ++ k))) n (λ k o. ap not (h k o))
-
+-- a note that says of the keys what another does
 pub add-one-note : (lo hi after : List ℕ) (v : Note) (test : List ℕ → Bool) (a b : Notes) → ((k : List ℕ) → owns lo hi k ≡ true → note_covers v (after ++ k) ≡ test k)
     → ((lo hi : List ℕ) → Gathered lo hi (λ k. not (test k)) a b) → Gathered lo hi (λ k. not (note_covers v (after ++ k))) a b
 add-one-note lo hi after v test a b h g = gathered-as lo hi (λ k. not (note_covers v (after ++ k))) (λ k. not (test k)) a b (λ k o. ap not (h k o)) (g lo hi)
@@ -100,9 +96,6 @@ pub record Noting (lo hi after : List ℕ) (first now : Notes) (all left : List 
   pub tells : IsSome now.count → (k : List ℕ) → owns lo hi k ≡ true → silent now k && none_covers left (after ++ k) ≡ silent first k && none_covers all (after ++ k)
 
 module _ (lo hi after : List ℕ) (first : Notes) (all : List defined.Entry) where
-  pub noting-start : Noting lo hi after first first all all
-  noting-start = record { room = λ s. s; tells = λ s k o. refl }
-
   module _ (now : Notes) (left : List defined.Entry) (inv : Noting lo hi after first now all left) where
     pub noting-end : left ≡ [] → Gathered lo hi (λ k. none_covers all (after ++ k)) first now
     unfolding none_covers
@@ -127,11 +120,3 @@ module _ (lo hi after : List ℕ) (first : Notes) (all : List defined.Entry) whe
                 ∙ and_assoc (silent now k) (entry_not_covers e (after ++ k)) (none_covers ts (after ++ k))
                 ∙ sym (ap (λ es. silent now k && none_covers es (after ++ k)) q) ∙ inv.tells (g.room s) k o;
           }
-
--- the loop over other notes: the first i of them are told
-pub narrowing-on : (lo hi after : List ℕ) (others : List Note) (i : ℕ) (d : Note) (first now next : Notes) → i < length others
-    → Gathered lo hi (λ k. quiet (take i others) (after ++ k)) first now → Gathered lo hi (λ k. not (note_covers (get_or others i d) (after ++ k))) now next
-    → Gathered lo hi (λ k. quiet (take (i + 1) others) (after ++ k)) first next
-narrowing-on lo hi after others i d first now next h f g =
-    gathered-more lo hi (λ k. quiet (take i others) (after ++ k)) (λ k. not (note_covers (get_or others i d) (after ++ k))) (λ k. quiet (take (i + 1) others) (after ++ k)) first now next f g
-    (λ k o. list_all_more (λ v. not (note_covers v (after ++ k))) others i d h)

@@ -1,16 +1,11 @@
 -- The newest message of a node on a rest, found entry by entry; and whether an entry says anything of it.
-use Rattle.std.specs.Prelude.{ℕ, ◌≡◌, refl, List, [], ◌∷◌, Bool, true, false, cond}
-use Rattle.image.specs.Prelude.{sym, ap, subst, ◌∙◌, Option, none, some}
-use Rattle.image.specs.Bytes.{same, begins}
+use Rattle.std.specs.Prelude.{ℕ, ◌≡◌, refl, List, [], ◌∷◌, Bool, true, false}
+use Rattle.image.specs.Prelude.{sym, ap, ◌∙◌, Option}
 use Rattle.image.specs.Entry as defined
 use Rattle.image.specs.Meaning.{Said, nothing, says, says_of, newer}
-use Rattle.node.specs.Places.{part, message_in, entry_in, MessageWithin, EntryWithin, Within}
 use Rattle.node.specs.Lent.{message_is, entry_is}
 use Rattle.node.specs.declared.entries.Message as spoken
 use Rattle.node.specs.declared.entries.Entry as lent
-use Rattle.node.specs.declared.Place.{Place}
-use Rattle.node.specs.declared.Message.{Message}
-use Rattle.node.specs.declared.Entry.{Entry}
 
 -- what an entry says of a rest
 unfoldable pub entry_says : defined.Entry → List ℕ → Said
@@ -74,51 +69,7 @@ module _ (best answer : Said) (es ts : List defined.Entry) (rest : List ℕ) (e 
         last : (v : Option (List ℕ)) → says v ≡ newer best (says v)
         last v = unfold newer in refl
 
--- what the places of a message and of an entry keep to
-pub put-places : (n : ℕ) (m : Message) (p v : Place) → MessageWithin 0 n m → m ≡ Message.Put p v → Within 0 n p × Within 0 n v
-put-places n m p v w e = subst (MessageWithin 0 n) e w
-
-pub drop-places : (n : ℕ) (m : Message) (p : Place) → MessageWithin 0 n m → m ≡ Message.Drop p → Within 0 n p
-drop-places n m p w e = subst (MessageWithin 0 n) e w
-
-pub clear-places : (n : ℕ) (m : Message) (p : Place) → MessageWithin 0 n m → m ≡ Message.Clear p → Within 0 n p
-clear-places n m p w e = subst (MessageWithin 0 n) e w
-
-pub message-places : (n : ℕ) (e : Entry) (m : Message) → EntryWithin 0 n e → e ≡ Entry.Message m → MessageWithin 0 n m
-message-places n e m w q = subst (EntryWithin 0 n) q w
-
 -- whether anything is said
 unfoldable pub covers : Said → Bool
 covers nothing = false
 covers (says v) = true
-
-if-said : (b : Bool) (x : Option (List ℕ)) → b ≡ covers (cond b (says x) nothing)
-unfolding covers
-if-said true x = refl
-if-said false x = refl
-
-module _ (s rest : List ℕ) (b : Bool) (m : Message) where
-  pub put-covers : (p v : Place) → m ≡ Message.Put p v → b ≡ same (part s p) rest → b ≡ covers (says_of (message_in s m) rest)
-  unfolding says_of
-  put-covers p v q e = rw (q, sym e) (if-said b (some (part s v)))
-
-  pub drop-covers : (p : Place) → m ≡ Message.Drop p → b ≡ same (part s p) rest → b ≡ covers (says_of (message_in s m) rest)
-  unfolding says_of
-  drop-covers p q e = rw (q, sym e) (if-said b none)
-
-  pub clear-covers : (p : Place) → m ≡ Message.Clear p → b ≡ begins (part s p) rest → b ≡ covers (says_of (message_in s m) rest)
-  unfolding says_of
-  clear-covers p q e = rw (q, sym e) (if-said b none)
-
-module _ (s rest : List ℕ) (e : Entry) where
-  pub pair-uncovered : (p v : Place) → e ≡ Entry.Pair p v → false ≡ covers (entry_says (entry_in s e) rest)
-  unfolding entry_says covers
-  pair-uncovered p v q = rw q
-
-  pub child-uncovered : (i : ℕ) (p : Place) → e ≡ Entry.Child i p → false ≡ covers (entry_says (entry_in s e) rest)
-  unfolding entry_says covers
-  child-uncovered i p q = rw q
-
-  pub message-on : (b : Bool) (m : Message) → e ≡ Entry.Message m → b ≡ covers (says_of (message_in s m) rest) → b ≡ covers (entry_says (entry_in s e) rest)
-  unfolding entry_says
-  message-on b m q h = rw q h

@@ -86,10 +86,6 @@ some_size (suc k) (b ∷ x) = go (leb 4 (length (b ∷ x)) && leb (u16 (b ∷ x)
         rw e (then-size (entry_of (u16 (b ∷ x) 2) r) (read_some k t) (b ∷ x) r t (omega (arith, four, parts)) (ih t) (λ y w. (entry-good (u16 (b ∷ x) 2) r y w).0))
     go false e ih = rw e (omega (arith, size-nil))
 
-pub list-size : (x : List ℕ) → length (bytes_of_all (list_of x)) ≤ length x
-unfolding list_of size_of
-list-size x = some_size (length x) x
-
 pub listing-size : (s : List ℕ) (i : ℕ) → size_of (listing s i) ≤ u16 s (i * 1024)
 unfolding listed list_of
 listing-size s i = omega (arith, some_size (length (body_of s i)) (body_of s i), body-short s i)

@@ -1,6 +1,6 @@
 -- A leaf whose keys rise is sound if its first key is not below the low pivot and its last key below the high one: the walk that asks no more.
 -- Relies on Leaf, whose walk asks of every key whether the leaf owns it, and on the order of strings.
-use Rattle.std.specs.Prelude.{ℕ, ◌<◌, ◌≡◌, refl, List, [], ◌∷◌, Bool, true, false, ◌&&◌, not, length}
+use Rattle.std.specs.Prelude.{ℕ, ◌≡◌, refl, List, [], ◌∷◌, Bool, true, false, ◌&&◌, not, length}
 use Rattle.std.specs.Borrow.{Bor}
 use Rattle.image.specs.Prelude.{sym, ap, ◌∙◌, and-true, Option, none, some, arith}
 use Rattle.image.specs.Bytes.{before}

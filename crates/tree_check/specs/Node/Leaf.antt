@@ -1,6 +1,6 @@
 -- A sound leaf, pair by pair.
 use Rattle.std.specs.Prelude.{ℕ, ◌≡◌, refl, List, [], ◌∷◌, Bool, true, false, ◌&&◌}
-use Rattle.image.specs.Prelude.{sym, ap, ap₂, subst, ◌∙◌, and-true, and-false, Option, none, some, arith}
+use Rattle.image.specs.Prelude.{sym, ap, ap₂, ◌∙◌, and-true, and-false, Option, none, some, arith}
 use Rattle.image.specs.Bytes.{before}
 use Rattle.image.specs.Path.{owns, value_fits}
 use Rattle.image.specs.Entry as defined

@@ -1,6 +1,6 @@
 -- The walk over the messages that a node holds, entry by entry.
 -- Relies on Inside, which defines it, and on node's reading of an entry (Lent).
-use Rattle.std.specs.Prelude.{ℕ, ◌<◌, ◌≡◌, refl, List, [], ◌∷◌, Bool, true, false, ◌&&◌, length}
+use Rattle.std.specs.Prelude.{ℕ, ◌≡◌, refl, List, [], ◌∷◌, Bool, true, false, ◌&&◌, length}
 use Rattle.image.specs.Prelude.{sym, ap, ◌∙◌, and-false, Option, none, some, arith}
 use Rattle.image.specs.Bytes.{same}
 use Rattle.image.specs.Entry as defined

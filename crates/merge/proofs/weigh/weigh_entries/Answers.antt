@@ -19,8 +19,8 @@ overflow_add-sum c =
     let f = (first_light _ _ _ c.in-Some.ensures.steps c.loop-entry.invariant.0).0 in
     omega arith
 
-pub returns-then-sum-gt-ENTRIES_LIMIT : goal.returns-then-sum-gt-ENTRIES_LIMIT
-returns-then-sum-gt-ENTRIES_LIMIT c =
+pub returns-then-over : goal.returns-then-over
+returns-then-over c =
     let w = c.in_ok-sum.ensures in weighs-over _ _ _ _ c.loop-entry.invariant.2 _ _ c.in-Some.ensures.steps c.loop-entry.invariant.1 (omega arith)
 
 pub loop-entry-preserved : goal.loop-entry-preserved

@@ -1,15 +1,36 @@
--- `write_wide` meets its contract: a node over the pieces, then one over the children.
--- Relies on specs/PieceSteps.
-use Rattle.slice.specs.PieceSteps.{wide-rooms, wide-first, wide-second, wide-done, none-fits}
-use Rattle.std.specs.Prelude.{length, refl}
-use Rattle.image.specs.Prelude.{arith}
+-- `write_wide` meets its contract: a node over the pieces, then one over the children. Relies on specs/PieceSteps.
+use Rattle.image.specs.Prelude.{ap, ◌∙◌, sym, arith}
+use Rattle.std.specs.Prelude.{length, refl, ◌++◌}
+use Rattle.node.specs.Spans.{pending_of}
+use Rattle.slice.specs.Right.{all_line}
+use Rattle.slice.specs.PieceSteps.{wide-rooms, wide-first, wide-second, wide-done}
 use Rattle.slice.proofs.right.write_wide.Goals as goal
 
-pub write_over-requires : goal.write_over-requires
-write_over-requires c = let r = wide-rooms (length c.args.store.now) c.args.tree.level c.args.node.now c.args.layer.start c.args.lifts.edge c.args.lifts.rest c.args.k.now c.args.layer.below c.args.out.now c.args.tree.at c.args.free.now c.requires _ _ _ _ refl refl c.number_pieces-pieces.ensures.1 c.number_pieces-pieces.ensures.2 in let v = c.requires.levels in (r.0, omega arith, rw c.number_pieces-pieces.ensures.0 c.requires.fit, c.number_pieces-pieces.ensures.3, c.number_pieces-pieces.ensures.4, c.requires.ends, c.requires.numbers, rw c.number_pieces-pieces.ensures.0 (wide-first (length c.args.store.now) c.args.tree.level c.args.node.now c.args.layer.start c.args.lifts.edge c.args.lifts.rest c.args.k.now c.args.layer.below c.args.out.now c.args.tree.at c.args.free.now c.requires _ _ _ _ refl refl c.number_pieces-pieces.ensures.1 c.number_pieces-pieces.ensures.2))
+pub emit_parts-requires : goal.emit_parts-requires
+emit_parts-requires c =
+    let p = c.number_pieces-numbered.ensures in
+    let f = wide-first _ _ _ _ _ _ _ _ _ c.requires _ _ _ 0 p.1 p.2 _ c.first_pivot-pivot.ensures c.common_length-d.ensures.0 in
+    let z = ap length c.new-edge.ensures in (rw p.0 c.requires.fit, rw p.0 (omega arith), p.3, p.4)
 
-pub write_over-requires-2 : goal.write_over-requires-2
-write_over-requires-2 c = let r = wide-rooms (length c.args.store.now) c.args.tree.level c.args.node.now c.args.layer.start c.args.lifts.edge c.args.lifts.rest c.args.k.now c.args.layer.below c.args.out.now c.args.tree.at c.args.free.now c.requires _ _ _ _ refl refl c.number_pieces-pieces.ensures.1 c.number_pieces-pieces.ensures.2 in let v = c.requires.levels in (omega arith, omega arith, none-fits _, c.number_pieces-pieces.ensures.3, c.number_pieces-pieces.ensures.4, c.requires.ends, c.requires.numbers, wide-second (length c.args.store.now) c.args.tree.level c.args.node.now c.args.layer.start c.args.lifts.edge c.args.lifts.rest c.args.k.now c.args.layer.below c.args.out.now c.args.tree.at c.args.free.now c.requires _ _ _ _ refl refl c.number_pieces-pieces.ensures.1 c.number_pieces-pieces.ensures.2)
+pub emit_branches-requires : goal.emit_branches-requires
+emit_branches-requires c =
+    let p = c.number_pieces-numbered.ensures in
+    let f = wide-second _ _ _ _ _ _ _ _ _ c.requires _ _ _ _ p.1 p.2 _ c.first_pivot-pivot.ensures c.common_length-d.ensures.0 c.common_length-e.ensures.0 in
+    let z = ap length c.new-rest.ensures in (omega arith, c.requires.numbers)
+
+pub write_some-requires : goal.write_some-requires
+write_some-requires c =
+    let p = c.number_pieces-numbered.ensures in
+    let r = wide-rooms _ _ _ _ _ _ _ _ _ c.requires _ _ 0 0 p.1 p.2 _ _ refl refl in let v = c.requires.levels in (r.0, omega arith)
+
+pub write_some-requires-2 : goal.write_some-requires-2
+write_some-requires-2 c =
+    let p = c.number_pieces-numbered.ensures in
+    let r = wide-rooms _ _ _ _ _ _ _ _ _ c.requires _ _ 0 0 p.1 p.2 _ _ refl refl in let v = c.requires.levels in (omega arith, omega arith)
 
 pub returns : goal.returns
-returns c = wide-done (length c.args.store.now) c.args.tree.level c.args.node.now c.args.layer.start c.args.lifts.edge c.args.lifts.rest c.args.k.now c.args.layer.below c.args.out.now c.args.tree.at c.args.free.now c.requires _ _ _ _ refl refl c.number_pieces-pieces.ensures.1 c.number_pieces-pieces.ensures.2 _ _ _ (rw c.number_pieces-pieces.ensures.0 at c.write_over.ensures.0) c.write_over-2.ensures.0
+returns c =
+    let p = c.number_pieces-numbered.ensures in
+    wide-done _ _ _ _ _ _ _ _ _ c.requires _ _ _ _ p.1 p.2 _ c.first_pivot-pivot.ensures c.common_length-d.ensures.0 c.common_length-e.ensures.0
+    _ _ refl refl _ _ _ _ _ _ c.new-edge.ensures (rw p.0 at c.emit_parts.ensures) (c.emit_branches.ensures ∙ ap (λ l. l ++ all_line c.common_length-e.result (pending_of c.args.children)) (c.new-rest.ensures ∙ sym c.new-edge.ensures))
+    c.write_some.ensures.0 c.write_some-2.ensures.0

@@ -1,23 +1,21 @@
--- `write_root` meets its contract: three puts and a page. Relies on specs/Code.
+-- `write_root` meets its contract: what lies left, then the halves. Relies on specs/Code.
 use Rattle.std.specs.Prelude.{refl}
 use Rattle.std.proofs.Common.{rules}
-use Rattle.swing.specs.Code.{low-room, high-room, end_fits, num-room, root-done}
-use Rattle.laws.specs.Page.{zeros_of}
+use Rattle.swing.specs.Code.{num-room, left-room, low-room, high-room, root-done}
 use Rattle.image.specs.Prelude.{arith}
 use Rattle.swing.proofs.root.write_root.Goals as goal
 
-pub emit_half-b-requires : goal.emit_half-b-requires
-unfolding zeros_of
-emit_half-b-requires c = (c.requires.lower, low-room _ _ _ _ _ _ _ _ _ c.requires _ _ refl refl _ _ c.write_child-a.ensures.0 c.write_child-a.ensures.1 (search rules), search rules)
+pub push-requires : goal.push-requires
+push-requires c = (left-room _ _ _ _ _ _ _ _ _ c.requires _ _ refl refl _ c.new-page.ensures, search rules)
 
-pub emit_half-end-requires : goal.emit_half-end-requires
-unfolding zeros_of
-emit_half-end-requires c = (c.requires.higher, high-room _ _ _ _ _ _ _ _ _ c.requires _ _ refl refl _ _ c.write_child-a.ensures.0 c.write_child-a.ensures.1 (search rules) _ _ c.emit_half-b.ensures.0 c.emit_half-b.ensures.1 (search rules), search rules)
+pub emit_half-requires : goal.emit_half-requires
+emit_half-requires c = (c.requires.lower, low-room _ _ _ _ _ _ _ _ _ c.requires _ _ refl refl _ c.new-page.ensures _ c.push.ensures)
 
-pub write_page-requires : goal.write_page-requires
-unfolding zeros_of
-write_page-requires c = let f = end_fits _ _ _ _ _ _ _ _ _ c.requires _ _ refl refl _ _ c.write_child-a.ensures.0 c.write_child-a.ensures.1 (search rules) _ _ c.emit_half-b.ensures.0 c.emit_half-b.ensures.1 (search rules) _ _ c.emit_half-end.ensures.0 c.emit_half-end.ensures.1 in (num-room _ _ _ _ _ _ _ _ _ c.requires _ _ refl refl _ _ c.write_child-a.ensures.0 c.write_child-a.ensures.1 (search rules) _ _ c.emit_half-b.ensures.0 c.emit_half-b.ensures.1 (search rules) _ _ c.emit_half-end.ensures.0 c.emit_half-end.ensures.1, search rules, search rules, omega (arith, c.requires.levels), omega arith)
+pub emit_half-requires-2 : goal.emit_half-requires-2
+emit_half-requires-2 c = (c.requires.higher, high-room _ _ _ _ _ _ _ _ _ c.requires _ _ refl refl _ c.new-page.ensures _ c.push.ensures _ c.emit_half.ensures)
+
+pub write-requires : goal.write-requires
+write-requires c = let l = c.requires.levels in (num-room _ _ _ _ _ _ _ _ _ c.requires _ _ refl refl, omega arith, omega arith)
 
 pub returns : goal.returns
-unfolding zeros_of
-returns c = root-done _ _ _ _ _ _ _ _ _ c.requires _ _ refl refl _ _ c.write_child-a.ensures.0 c.write_child-a.ensures.1 (search rules) _ _ c.emit_half-b.ensures.0 c.emit_half-b.ensures.1 (search rules) _ _ c.emit_half-end.ensures.0 c.emit_half-end.ensures.1 _ c.write_page.ensures
+returns c = root-done _ _ _ _ _ _ _ _ _ c.requires _ _ refl refl _ c.new-page.ensures _ c.push.ensures _ c.emit_half.ensures _ c.emit_half-2.ensures _ c.write.ensures

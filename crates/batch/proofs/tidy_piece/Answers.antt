@@ -1,6 +1,0 @@
--- `batch::tidy_piece` meets its contract. Relies on specs/Steps.
-use Rattle.batch.specs.Steps.{served-meets}
-use Rattle.batch.proofs.tidy_piece.Goals as goal
-
-pub returns : goal.returns
-returns c = served-meets c.args.store.now c.args.work.now _ _ c.requires _ _ c.tidy_fit.ensures

@@ -1,7 +1,7 @@
 -- Turn after turn: the loop of a batch, and the contract of the whole. Relies on Requests and on what a call keeps (demands' Consequences).
 use Rattle.std.specs.Prelude.{ℕ, suc, ◌+◌, ◌*◌, ◌-◌, ◌/◌, ◌<◌, ◌≤◌, ◌≡◌, refl, List, [], ◌∷◌, ◌++◌, length, take, drop, Some, None, Result, Ok, Err}
 use Rattle.std.specs.Prelude as std
-use Rattle.image.specs.Prelude.{sym, ap, ap₂, subst, ◌∙◌, append_assoc, Option, none, some, arith, length-append, take_at, drop_at}
+use Rattle.image.specs.Prelude.{sym, ap, ap₂, subst, ◌∙◌, append_assoc, arith, length-append, take_at, drop_at}
 use Rattle.image.specs.Image.{nodes_of, whole_nodes}
 use Rattle.image.specs.Sound.{sound}
 use Rattle.image.specs.Calls.{acts, settle, work_per_node, work_long, questions, act_questions}

@@ -240,9 +240,6 @@ module _ (s : List ℕ) (i level : ℕ) (low high k : List ℕ) (at : ℕ) (free
   pub strip-short : j ≤ length k
   strip-short = let a = ap length within-k in let b = length-append (shared low high) (drop (length (shared low high)) k) in omega arith
 
-  pub strip-high : j ≤ length high
-  strip-high = let a = ap length (split-high low high) in let b = length-append (shared low high) (drop (length (shared low high)) high) in omega arith
-
   low' : from j low ≡ drop (length (shared low high)) low
   low' = part-rest j low ∙ ap (λ n. drop n low) ej
 

@@ -367,9 +367,6 @@ module _ (w : Bool) (s : List ℕ) (i level : ℕ) (low high k : List ℕ) (at :
   pub strip-short : j ≤ length k
   strip-short = let a = ap length within-k in let b = length-append (shared low high) (drop (length (shared low high)) k) in omega arith
 
-  pub strip-high : j ≤ length high
-  strip-high = let a = ap length (split-high low high) in let b = length-append (shared low high) (drop (length (shared low high)) high) in omega arith
-
   lift-is : take j k ≡ shared low high
   lift-is = ap (λ n. take n k) ej ∙ ap (take (length (shared low high))) (sym within-k) ∙ take-append_seam (shared low high) (drop (length (shared low high)) k)
 

@@ -2,6 +2,7 @@
 // on push's room (a pivot without its first bytes); specs/Right says what stands in the pages.
 ghost use Rattle.std.specs.Prelude.{◌≡◌, ◌++◌, not, ◌+◌, ◌≤◌, ◌<◌, length, eqb};
 ghost use Rattle.node.specs.Whole.{HasNode};
+ghost use Rattle.slice.specs.Point.{fresh_in};
 ghost use Rattle.slice.specs.Right.{pieces_in, PartsFit, all_line, over_body};
 
 use crate::Parts;
@@ -15,6 +16,20 @@ pub struct Numbered {
     pub parts: Parts,
     pub edge: usize,
     pub rest: usize,
+}
+
+// The pieces of a child with the numbers that they take: the edge's at a place of the list of free nodes, the rest's behind it.
+pub fn number_pieces(parts: Parts, free: &[u16], at: usize) -> Numbered
+    requires { at + 2 ≤ length free.now }
+    ensures { (result.parts ≡ parts)
+        × (result.edge ≡ fresh_in free.now at)
+        × (result.rest ≡ fresh_in free.now (at + 1))
+        × (result.edge < 65536)
+        × (result.rest < 65536) }
+{
+    let edge = free[at] as usize;
+    let rest = free[at + 1] as usize;
+    Numbered { parts, edge, rest }
 }
 
 // The entries of the pieces, each pivot without its first d bytes.

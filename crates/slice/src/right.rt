@@ -9,25 +9,10 @@ ghost use Rattle.node.specs.Spans.{pending_of};
 ghost use Rattle.slice.specs.Point.{fresh_in};
 ghost use Rattle.slice.specs.Right.{RightAsks, RightAs, WideAsks, NarrowAsks, pieces_in, wide_body, both_told, all_line, over_body, one_node};
 
-use crate::pieces::Numbered;
 use crate::{Parts, Slot, branches, pairs, pieces, point};
 use node::branches::{Branch, Branches};
 use node::entries::Entries;
 use node::page::Page;
-
-// The pieces of a child with the numbers that they take: the edge's at a place of the list of free nodes, the rest's behind it.
-fn number_pieces(parts: Parts, free: &[u16], at: usize) -> Numbered
-    requires { at + 2 ≤ length free.now }
-    ensures { (result.parts ≡ parts)
-        × (result.edge ≡ fresh_in free.now at)
-        × (result.rest ≡ fresh_in free.now (at + 1))
-        × (result.edge < 65536)
-        × (result.rest < 65536) }
-{
-    let edge = free[at] as usize;
-    let rest = free[at + 1] as usize;
-    Numbered { parts, edge, rest }
-}
 
 // The low pivot of the first child, or their high pivot if there is none.
 fn first_pivot<'a>(children: Branches<'a>) -> &'a [u8]
@@ -59,7 +44,7 @@ fn write_wide(
     let Slot { level, at } = slot;
     let pivot = first_pivot(children);
     let mut edge = Page::new();
-    let numbered = number_pieces(below, free, at + 2);
+    let numbered = pieces::number_pieces(below, free, at + 2);
     let d = octets::common_length(k, pivot);
     pieces::emit_parts(&mut edge, numbered, k, out, d);
     let mut rest = Page::new();
@@ -111,7 +96,7 @@ fn write_narrow(
 {
     let Slot { level, at } = slot;
     let mut page = Page::new();
-    let numbered = number_pieces(below, free, at + 1);
+    let numbered = pieces::number_pieces(below, free, at + 1);
     let d = octets::common_length(k, children.high);
     pieces::emit_parts(&mut page, numbered, k, out, d);
     branches::emit_branches(&mut page, children, d);

@@ -4,9 +4,7 @@
 #![tactic(auto)]
 
 ghost use Rattle.std.specs.Prelude.{◌≤◌, ◌<◌, ◌/◌, ◌%◌, ◌≡◌, []};
-ghost use Rattle.image.specs.Path.{path_limit};
-ghost use Rattle.image.specs.Image.{most_nodes};
-ghost use Rattle.image.specs.Answers.{refusal_limit, sameness_number, sameness_verdict, verdict_number, verdict_paths};
+ghost use Rattle.image.specs.Answers.{refusal_limit, sameness_number, sameness_verdict};
 ghost use Rattle.image.specs.Calls.{asks, get, next, filled, acts, keeps, put, drops, clear, move, settle, tidy, flush, heal, number};
 ghost use Rattle.image.specs.Contract.{Meets, MakeMeets, SameMeets, CheckMeets};
 ghost use Rattle.image.specs.Batch.{BatchMeets};
@@ -25,13 +23,14 @@ fn word(number: u32, beside: usize) -> u64
     number as u64 + 4294967296 * (beside as u64)
 }
 
+// The word of an answer: its number, with a length or a count beside it.
 #[tactic(auto, unfolding(crate::specs::Words::found_number, query::specs::Asked::found_length))]
-fn found_word(found: Result<usize, Refusal>) -> u64
-    requires { found_length found ≤ path_limit }
-    ensures { Holds result (found_number found) (found_length found) }
+fn answer_word(answer: Result<usize, Refusal>) -> u64
+    requires { found_length answer < 4294967296 }
+    ensures { Holds result (found_number answer) (found_length answer) }
 {
-    match found {
-        Ok(length) => word(0, length),
+    match answer {
+        Ok(beside) => word(0, beside),
         Err(refusal) => word(u32::from(refusal), 0),
     }
 }
@@ -42,17 +41,6 @@ fn sameness_word(sameness: Result<bool, Refusal>) -> u64
 {
     match sameness {
         Ok(same) => word(0, usize::from(same)),
-        Err(refusal) => word(u32::from(refusal), 0),
-    }
-}
-
-#[tactic(auto, unfolding(image::specs::Answers::verdict_number, image::specs::Answers::verdict_paths))]
-fn verdict_word(verdict: Result<usize, Refusal>) -> u64
-    requires { verdict_paths verdict ≤ most_nodes }
-    ensures { Holds result (verdict_number verdict) (verdict_paths verdict) }
-{
-    match verdict {
-        Ok(paths) => word(0, paths),
         Err(refusal) => word(u32::from(refusal), 0),
     }
 }
@@ -88,7 +76,7 @@ pub extern "C" fn splicelog_make(store: &mut [u8]) -> u32
 pub extern "C" fn splicelog_get(store: &[u8], path: &[u8], buffer: &mut [u8]) -> u64
     ensures { Meets store.now (asks (get path.now) buffer.old) (filled (result % 4294967296) (result / 4294967296) buffer.new) store.now [] }
 {
-    found_word(query::get(store, path, buffer))
+    answer_word(query::get(store, path, buffer))
 }
 
 #[unsafe(no_mangle)]
@@ -96,7 +84,7 @@ pub extern "C" fn splicelog_next(store: &[u8], path: &[u8], after: &[u8], buffer
     ensures { Meets store.now (asks (next path.now after.now) buffer.old)
         (filled (result % 4294967296) (result / 4294967296) buffer.new) store.now [] }
 {
-    found_word(query::next(store, path, after, buffer))
+    answer_word(query::next(store, path, after, buffer))
 }
 
 #[unsafe(no_mangle)]
@@ -110,7 +98,7 @@ pub extern "C" fn splicelog_same(store: &[u8], other: &[u8]) -> u64
 pub extern "C" fn splicelog_check(store: &[u8]) -> u64
     ensures { CheckMeets store.now (result % 4294967296) (result / 4294967296) }
 {
-    verdict_word(query::check(store))
+    answer_word(query::check(store))
 }
 
 #[unsafe(no_mangle)]

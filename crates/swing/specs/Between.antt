@@ -60,11 +60,11 @@ module _ (s free p r : List ℕ) (up : Bool) (planned : Plan s free p r up) wher
       unfolding half_in
       under-high = number-under-high s free p r up planned up ∙ ap (λ k. F (17 * H - k)) (sym z)
 
-      behind-low : raise_branches [] (branches_of (right_past_p F H (tree_of s) p r)) ≡ pieces_in lower.edge lower.rest (past p) low lower.parts
+      behind-low : raise_branches [] (branches_of (right_past_p F H (tree_of s) p r)) ≡ pieces_in lower.pieces.edge lower.pieces.rest (past p) low lower.pieces.parts
       unfolding half_in
       behind-low = low-pieces s free p r up planned s₆ low high c a
 
-      behind-high : raise_branches [] (branches_of (right_past_r F H (tree_of s) p r)) ≡ pieces_in higher.edge higher.rest (past r) high higher.parts
+      behind-high : raise_branches [] (branches_of (right_past_r F H (tree_of s) p r)) ≡ pieces_in higher.pieces.edge higher.pieces.rest (past r) high higher.pieces.parts
       unfolding half_in
       behind-high = high-pieces s free p r up planned s₆ low high c a
 

@@ -16,6 +16,7 @@ use Rattle.slice.specs.Slicing.SliceWrite.{left_write}
 use Rattle.slice.specs.Slicing.RightWrite.{right_write}
 use Rattle.slice.specs.Moving.GapWrite.{gap_write}
 use Rattle.slice.specs.declared.Parts.{Parts}
+use Rattle.slice.specs.declared.pieces.Numbered.{Numbered}
 use Rattle.slice.specs.Point.{fresh_in}
 use Rattle.slice.specs.Left.{LeftAsks}
 use Rattle.slice.specs.Right.{RightAsks, RightAs, pieces_in, raise_branches, all_line}
@@ -166,16 +167,16 @@ unfolding low_place
 place_down h up e = (rw e, omega arith, omega arith)
 
 -- THE ROOT'S PAGE
-pub half-made : (free : List ℕ) (place block : ℕ) (parts : Parts) (a b c : ℕ) → a ≡ get_or free place 0 → b ≡ get_or free block 0 → c ≡ get_or free (block + 1) 0
-    → ◌≡◌ {A = Half} (record { number = a; edge = b; rest = c; parts = parts }) (half_in free place block parts)
+pub half-made : (free : List ℕ) (place block : ℕ) (parts : Parts) (a : ℕ) (q : Numbered) → a ≡ get_or free place 0 → q.parts ≡ parts → q.edge ≡ fresh_in free block
+    → q.rest ≡ fresh_in free (block + 1) → ◌≡◌ {A = Half} (record { number = a; pieces = q }) (half_in free place block parts)
 unfolding half_in fresh_in
-half-made free place block parts a b c x y z = λ i. record { number = x i; edge = y i; rest = z i; parts = parts }
+half-made free place block parts a q x w y z = λ i. record { number = x i; pieces = record { parts = w i; edge = y i; rest = z i } }
 
 -- a half, behind what is on the page
 module _ (now bound : List ℕ) (half : Half) (out : List ℕ) (room : length now + length (half_line bound half out) ≤ 1016) where
-  line-size : length (half_line bound half out) ≡ length (bytes_of (child half.number (front bound))) + length (all_line 0 (pieces_in half.edge half.rest bound out half.parts))
+  line-size : length (half_line bound half out) ≡ length (bytes_of (child half.number (front bound))) + length (all_line 0 (pieces_in half.pieces.edge half.pieces.rest bound out half.pieces.parts))
   unfolding half_line
-  line-size = length-append (bytes_of (child half.number (front bound))) (all_line 0 (pieces_in half.edge half.rest bound out half.parts))
+  line-size = length-append (bytes_of (child half.number (front bound))) (all_line 0 (pieces_in half.pieces.edge half.pieces.rest bound out half.pieces.parts))
 
   path-is : bytes_of (child half.number (take (length bound - 1 - 0) (drop 0 bound))) ≡ bytes_of (child half.number (front bound))
   path-is = ap (λ q. bytes_of (child half.number q)) (front-part bound)
@@ -187,14 +188,14 @@ module _ (now bound : List ℕ) (half : Half) (out : List ℕ) (room : length no
     path-put : pg₁ ≡ now ++ bytes_of (child half.number (front bound))
     path-put = w ∙ ap (λ l. now ++ l) path-is
 
-    pub parts-room : length pg₁ + length (all_line 0 (pieces_in half.edge half.rest bound out half.parts)) ≤ 1016
+    pub parts-room : length pg₁ + length (all_line 0 (pieces_in half.pieces.edge half.pieces.rest bound out half.pieces.parts)) ≤ 1016
     parts-room = let l = line-size in let p = ap length path-put in let a = length-append now (bytes_of (child half.number (front bound))) in omega arith
 
-    pub half-done : (pg₂ : List ℕ) → pg₂ ≡ pg₁ ++ all_line 0 (pieces_in half.edge half.rest bound out half.parts) → pg₂ ≡ now ++ half_line bound half out
+    pub half-done : (pg₂ : List ℕ) → pg₂ ≡ pg₁ ++ all_line 0 (pieces_in half.pieces.edge half.pieces.rest bound out half.pieces.parts) → pg₂ ≡ now ++ half_line bound half out
     unfolding half_line
     half-done pg₂ x =
-        x ∙ ap (λ l. l ++ all_line 0 (pieces_in half.edge half.rest bound out half.parts)) path-put
-        ∙ append_assoc now (bytes_of (child half.number (front bound))) (all_line 0 (pieces_in half.edge half.rest bound out half.parts))
+        x ∙ ap (λ l. l ++ all_line 0 (pieces_in half.pieces.edge half.pieces.rest bound out half.pieces.parts)) path-put
+        ∙ append_assoc now (bytes_of (child half.number (front bound))) (all_line 0 (pieces_in half.pieces.edge half.pieces.rest bound out half.pieces.parts))
 
 module _ (s : List ℕ) (h : ℕ) (bound limit free : List ℕ) (low : Half) (behind : List ℕ) (high : Half) (last : List ℕ) (pre : RootAsks s h bound limit free low behind high last)
     (left num : ℕ) (left_is : left ≡ get_or free (7 * h) 0) (num-is : num ≡ get_or free (10 * h) 0) where

@@ -9,11 +9,11 @@ use Rattle.swing.specs.declared.root.Half.{Half}
 use Rattle.swing.specs.Cuts.{front}
 
 unfoldable pub half_in : List ℕ → ℕ → ℕ → Parts → Half
-half_in free place block parts = record { number = fresh_in free place; edge = fresh_in free block; rest = fresh_in free (block + 1); parts = parts }
+half_in free place block parts = record { number = fresh_in free place; pieces = record { parts = parts; edge = fresh_in free block; rest = fresh_in free (block + 1) } }
 
 -- the node under the path, and the pieces behind its range
 unfoldable pub half_line : List ℕ → Half → List ℕ → List ℕ
-half_line bound half out = bytes_of (child half.number (front bound)) ++ all_line 0 (pieces_in half.edge half.rest bound out half.parts)
+half_line bound half out = bytes_of (child half.number (front bound)) ++ all_line 0 (pieces_in half.pieces.edge half.pieces.rest bound out half.pieces.parts)
 
 unfoldable pub root_line : ℕ → List ℕ → Half → List ℕ → List ℕ → Half → List ℕ → List ℕ
 root_line left bound low behind limit high last = bytes_of (child left []) ++ (half_line bound low behind ++ half_line limit high last)
@@ -21,9 +21,9 @@ root_line left bound low behind limit high last = bytes_of (child left []) ++ (h
 pub record HalfFits (bound : List ℕ) (half : Half) (out : List ℕ) : Type 0 where
   pub ends : 1 ≤ length bound
   pub small_number : half.number < 65536
-  pub small_edge : half.edge < 65536
-  pub small_rest : half.rest < 65536
-  pub fit : PartsFit (length out) half.parts
+  pub small_edge : half.pieces.edge < 65536
+  pub small_rest : half.pieces.rest < 65536
+  pub fit : PartsFit (length out) half.pieces.parts
 
 pub record RootAsks (s : List ℕ) (h : ℕ) (bound limit free : List ℕ) (low : Half) (behind : List ℕ) (high : Half) (last : List ℕ) : Type 0 where
   pub levels : h ≤ 8

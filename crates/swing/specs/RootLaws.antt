@@ -59,14 +59,14 @@ lower-nil (tree s t f) = ap (λ g. tree s t g) (lower-nil f)
 
 -- ONE HALF
 half_is : (f : Forest) (t : Tree) (path bound out : List ℕ) (half : Half) → front bound ≡ path → number_of t ≡ half.number
-    → raise_branches [] (branches_of f) ≡ pieces_in half.edge half.rest bound out half.parts → piece_list (tree path t f) ≡ half_line bound half out
+    → raise_branches [] (branches_of f) ≡ pieces_in half.pieces.edge half.pieces.rest bound out half.pieces.parts → piece_list (tree path t f) ≡ half_line bound half out
 unfolding half_line
 half_is f t path bound out half ef n e =
     list-more path t f
     ∙ ap₂ (λ a b. a ++ b) (ap₂ (λ k q. bytes_of (child k q)) n (sym ef)) (list-line f ∙ ap (all_line 0) (sym (raise-none (branches_of f)) ∙ e))
 
 half-join : (f g : Forest) (t : Tree) (path bound out : List ℕ) (half : Half) → front bound ≡ path → number_of t ≡ half.number
-    → raise_branches [] (branches_of f) ≡ pieces_in half.edge half.rest bound out half.parts → piece_list (tree path t (joined f g)) ≡ half_line bound half out ++ piece_list g
+    → raise_branches [] (branches_of f) ≡ pieces_in half.pieces.edge half.pieces.rest bound out half.pieces.parts → piece_list (tree path t (joined f g)) ≡ half_line bound half out ++ piece_list g
 half-join f g t path bound out half ef n e =
     list-more path t (joined f g) ∙ ap (λ l. bytes_of (child (number_of t) path) ++ l) (list-joined f g)
     ∙ sym (append_assoc (bytes_of (child (number_of t) path)) (piece_list f) (piece_list g))
@@ -75,8 +75,8 @@ half-join f g t path bound out half ef n e =
 -- THE ROOT
 module _ (fresh : ℕ → ℕ) (h : ℕ) (t : Tree) (p r : List ℕ) (x y : Tree) (left : ℕ) (low high : Half) (behind last : List ℕ)
     (ep : front (past p) ≡ p) (er : front (past r) ≡ r) (left_is : number_of (left_p fresh h t p r) ≡ left) (x-is : number_of x ≡ low.number) (y-is : number_of y ≡ high.number)
-    (low_is : raise_branches [] (branches_of (right_past_p fresh h t p r)) ≡ pieces_in low.edge low.rest (past p) behind low.parts)
-    (high_is : raise_branches [] (branches_of (right_past_r fresh h t p r)) ≡ pieces_in high.edge high.rest (past r) last high.parts) where
+    (low_is : raise_branches [] (branches_of (right_past_p fresh h t p r)) ≡ pieces_in low.pieces.edge low.pieces.rest (past p) behind low.pieces.parts)
+    (high_is : raise_branches [] (branches_of (right_past_r fresh h t p r)) ≡ pieces_in high.pieces.edge high.pieces.rest (past r) last high.pieces.parts) where
   pieces_are : piece_list (pieces fresh h t p r x y) ≡ root_line left (past p) low behind (past r) high last
   unfolding pieces root_line
   pieces_are =

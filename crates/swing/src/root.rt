@@ -11,13 +11,11 @@ use node::page::Page;
 use slice::Parts;
 use slice::pieces::Numbered;
 
-// Half of a new root: the number of the node under a path, and the pieces behind its range, with the numbers of an edge and of a rest.
+// Half of a new root: the number of the node under a path, and the pieces behind its range.
 #[derive(Clone, Copy)]
 pub struct Half {
     pub number: usize,
-    pub edge: usize,
-    pub rest: usize,
-    pub parts: Parts,
+    pub pieces: Numbered,
 }
 
 // Both halves of a new root, and how many levels lie under it.
@@ -33,14 +31,9 @@ pub fn half_at(free: &[u16], place: usize, block: usize, parts: Parts) -> Half
     requires { (place + 1 ≤ length free.now) × (block + 2 ≤ length free.now) × (place < 65536) × (block < 65536) }
     ensures { result ≡ half_in free.now place block parts }
 {
-    let number = free[place] as usize;
-    let edge = free[block] as usize;
-    let rest = free[block + 1] as usize;
     Half {
-        number,
-        edge,
-        rest,
-        parts,
+        number: free[place] as usize,
+        pieces: slice::pieces::number_pieces(parts, free, block),
     }
 }
 
@@ -51,12 +44,7 @@ fn emit_half(page: &mut Page, bound: &[u8], half: Half, out: &[u8])
 {
     let n = bound.len() - 1;
     page.push(Entry::Child(half.number, &bound[0..n]));
-    let over = Numbered {
-        parts: half.parts,
-        edge: half.edge,
-        rest: half.rest,
-    };
-    slice::pieces::emit_parts(page, over, bound, out, 0);
+    slice::pieces::emit_parts(page, half.pieces, bound, out, 0);
 }
 
 // The new root, as the last of the free nodes that a move takes.

@@ -164,7 +164,8 @@ pub fn check_node(
     check_children(store, first, behind, parent, seen)
 }
 
-// The children of a node, of which `first` has the node's own low pivot and the others stand in front of its messages, and the messages.
+// The children of a node, of which `first` has the node's own low pivot and the others stand in front of its messages, and the messages. (What no
+// child begins is left to the check of the messages, also where it does not read; node's iterator over children has read past it.)
 #[cycle(check_node_check_children_check_child)]
 pub fn check_children(
     store: &[u8],

@@ -30,7 +30,7 @@ pub fn follows_on(previous: Option<&[u8]>, lo: &[u8], key: &[u8]) -> bool
 pub fn row_good(previous: Option<&[u8]>, key: &[u8], value: &[u8], lo: &[u8], sh: Shape) -> bool
     ensures { result ≡ row_next (shape_is sh) lo.now (value_is previous.entry) key.now value.now }
 {
-    value.len() <= image::VALUE_LIMIT && follows_on(previous, lo, key) && path::goes_on(sh, key)
+    follows_on(previous, lo, key) && path::goes_on(sh, key) && value.len() <= image::VALUE_LIMIT
 }
 
 // Whether the last key, if there is one, is below the high pivot.
@@ -45,7 +45,7 @@ pub fn ends_below(previous: Option<&[u8]>, hi: &[u8]) -> bool
 }
 
 // Whether bytes are the pairs of a sound leaf, and how many. Its keys rise, so that only the first is held against the low pivot, and only the last
-// against the high one.
+// against the high one. Each has to read, up to the last byte: node's iterator would end alike where one does not.
 pub fn check_leaf(entries: &[u8], lo: &[u8], hi: &[u8], sh: Shape) -> Option<usize>
     ensures { Counts (leaf_run (shape_is sh) lo.now hi.now none (entries_of entries.now)) (length (list_of entries.now)) result }
 {
@@ -85,7 +85,7 @@ pub fn message_good(message: Message, lo: &[u8], hi: &[u8], sh: Shape) -> bool
     }
 }
 
-// Whether bytes are sound messages, and how many.
+// Whether bytes are sound messages, and how many. Each has to read, as in check_leaf.
 pub fn check_messages(entries: &[u8], lo: &[u8], hi: &[u8], sh: Shape) -> Option<usize>
     ensures { Counts (messages_run (shape_is sh) lo.now hi.now (entries_of entries.now)) (length (list_of entries.now)) result }
 {

@@ -1,16 +1,15 @@
 -- `batch::make_change` meets its contract, change by change. Relies on specs/Steps.
 use Rattle.batch.specs.Steps.{served-act, served-meets, served-keeps}
-use Rattle.edit.specs.Room.{unmarked-so}
 use Rattle.batch.proofs.make_change.Goals as goal
 
 pub put_fit-requires : goal.put_fit-requires
-put_fit-requires c = (c.requires.passed, unmarked-so _ _)
+put_fit-requires c = (c.requires.passed, tt)
 
 pub drop_fit-requires : goal.drop_fit-requires
-drop_fit-requires c = (c.requires.passed, unmarked-so _ _)
+drop_fit-requires c = (c.requires.passed, tt)
 
 pub clear_fit-requires : goal.clear_fit-requires
-clear_fit-requires c = (c.requires.passed, unmarked-so _ _)
+clear_fit-requires c = (c.requires.passed, tt)
 
 pub settle_fit-requires : goal.settle_fit-requires
 settle_fit-requires c = (c.requires.passed, c.mark_nodes-quiet-in-Settle.ensures.1)

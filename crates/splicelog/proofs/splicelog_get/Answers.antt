@@ -3,4 +3,4 @@ use Rattle.splicelog.specs.Words.{word-meets}
 use Rattle.splicelog.proofs.splicelog_get.Goals as goal
 
 pub returns : goal.returns
-returns c = word-meets _ _ _ _ _ c.get.ensures.meets c.found_word.ensures
+returns c = word-meets _ _ _ _ _ c.get.ensures.meets c.answer_word.ensures

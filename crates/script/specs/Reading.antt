@@ -126,6 +126,10 @@ module _ (hex value : List ℕ) (i n : ℕ) (seen : bytes_of hex ≡ behind_all 
           next : bytes_of (get_or hex i 0 ∷ get_or hex (i + 1) 0 ∷ drop (i + 2) hex) ≡ behind (16 * high + low) (bytes_of (drop (i + 2) hex))
           next = unfold bytes_of in rw (sym high_is, sym low_is, le-ltb 15 high high_fits, le-ltb 15 low l) refl
 
+  -- the loop that reads has read all pairs of digits, and one is left
+  pub hex-odd : length hex ≡ i + 1 → none ≡ bytes_of hex
+  hex-odd h = odd-digit (omega arith) (omega arith)
+
   pub hex-read : length hex ≤ i → n ≤ length value → Parsed (bytes_of hex) (Some n) value
   unfolding value_read read_length
   hex-read h k =

@@ -1,6 +1,6 @@
 // The fields of a line, read: where one ends, the path that a text stands for, the value that hexadecimal text stands for.
 // Relies on octets for bytes and on writing for the exchange of bytes; image, Program defines what a field stands for.
-ghost use Rattle.std.specs.Prelude.{◌+◌, ◌*◌, ◌<◌, ◌≤◌, ◌≡◌, length};
+ghost use Rattle.std.specs.Prelude.{◌+◌, ◌*◌, ◌<◌, ◌≤◌, ◌≡◌, length, MatchOption};
 ghost use Rattle.image.specs.Program.{path_of, digit_of, bytes_of, value_of};
 ghost use Rattle.script.specs.Find.{up_to};
 ghost use Rattle.script.specs.Reading.{Front, Parsed};
@@ -9,14 +9,12 @@ ghost use Rattle.script.specs.Reading.{Front, Parsed};
 pub fn find_byte(s: &[u8], b: u8) -> usize
     ensures { (result ≡ up_to b s.now) × (result ≤ length s.now) }
 {
-    let mut i = 0;
-    while i < s.len() {
-        if s[i] == b {
+    for (i, c) in s.iter().enumerate() {
+        if *c == b {
             return i;
         }
-        i += 1;
     }
-    i
+    s.len()
 }
 
 // The path that a text stands for, at the front of the buffer: its length, which is 0 for a lone `/`.
@@ -36,53 +34,32 @@ pub fn read_path(text: &[u8], path: &mut [u8]) -> usize
     end + 1
 }
 
-// A hexadecimal digit; 16 for any other byte.
-fn read_digit(b: u8) -> u8
-    ensures { (result ≡ digit_of b) × (result ≤ 16) }
+// A hexadecimal digit of either case.
+#[tactic(auto, unfolding(image::specs::Program::digit_of))]
+fn read_digit(b: u8) -> Option<u8>
+    ensures { MatchOption result (digit_of b ≡ 16) (λ d. (d ≡ digit_of b) × (d ≤ 15)) }
 {
-    if b < 48 {
-        return 16;
+    match b {
+        b'0'..=b'9' => Some(b - b'0'),
+        b'A'..=b'F' => Some(b - b'A' + 10),
+        b'a'..=b'f' => Some(b - b'a' + 10),
+        _ => None,
     }
-    if b < 58 {
-        return b - 48;
-    }
-    if b < 65 {
-        return 16;
-    }
-    if b < 71 {
-        return b - 55;
-    }
-    if b < 97 {
-        return 16;
-    }
-    if b < 103 {
-        return b - 87;
-    }
-    16
 }
 
-// The bytes of hexadecimal text, at the front of the buffer.
+// The bytes of hexadecimal text, at the front of the buffer: their length, if it is not odd or wrong.
 fn read_hex(hex: &[u8], value: &mut [u8]) -> Option<usize>
     requires { length hex.now ≤ 2 * length value.old }
     ensures { Parsed (bytes_of hex.now) result value.new }
 {
-    let mut n = 0;
-    let mut i = 0;
-    while i < hex.len() {
-        if hex.len() - i < 2 {
-            return None;
-        }
-        let high = read_digit(hex[i]);
-        if 15 < high {
-            return None;
-        }
-        let low = read_digit(hex[i + 1]);
-        if 15 < low {
-            return None;
-        }
-        value[n] = 16 * high + low;
-        n += 1;
-        i += 2;
+    let n = hex.len() / 2;
+    for i in 0..n {
+        let high = read_digit(hex[2 * i])?;
+        let low = read_digit(hex[2 * i + 1])?;
+        value[i] = 16 * high + low;
+    }
+    if hex.len() % 2 == 1 {
+        return None;
     }
     Some(n)
 }

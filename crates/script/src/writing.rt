@@ -24,12 +24,10 @@ pub fn put_exchanged(s: &[u8], from: u8, to: u8, out: &mut [u8], at: usize) -> u
     requires { at + length s.now ≤ length out.old }
     ensures { Wrote out.old at (exchanged from to s.now) result out.new }
 {
-    let mut i = 0;
-    while i < s.len() {
-        out[at + i] = exchange_byte(s[i], from, to);
-        i += 1;
+    for (i, c) in s.iter().enumerate() {
+        out[at + i] = exchange_byte(*c, from, to);
     }
-    at + i
+    at + s.len()
 }
 
 // A digit as the program prints it.
@@ -48,13 +46,11 @@ fn put_hex(value: &[u8], out: &mut [u8], at: usize) -> usize
     requires { at + 2 * length value.now ≤ length out.old }
     ensures { Wrote out.old at (hex_text value.now) result out.new }
 {
-    let mut i = 0;
-    while i < value.len() {
-        out[at + 2 * i] = show_digit(value[i] / 16);
-        out[at + 2 * i + 1] = show_digit(value[i] % 16);
-        i += 1;
+    for (i, byte) in value.iter().enumerate() {
+        out[at + 2 * i] = show_digit(*byte / 16);
+        out[at + 2 * i + 1] = show_digit(*byte % 16);
     }
-    at + 2 * i
+    at + 2 * value.len()
 }
 
 // A text at a place: where it ends.

@@ -1,10 +1,7 @@
--- The loop of `put_hex`: it has put two digits for each of the first i bytes. The measure is the bytes left. Relies on image's Program.
-use Rattle.std.specs.Prelude.{length, take, ◌*◌, ◌+◌, ◌-◌, ◌≤◌, ◌≡◌, ◌++◌}
+-- The loop of `put_hex`: it has put two digits for each of the first i bytes. Relies on image's Program.
+use Rattle.std.specs.Prelude.{length, take, ◌*◌, ◌+◌, ◌≡◌, ◌++◌}
 use Rattle.image.specs.Program.{hex_text}
 use Rattle.script.proofs.writing.put_hex.Given as goal
 
 abbrev pub invariant-loop-i : goal.invariant-loop-i
-invariant-loop-i l = (l.i ≤ length l.value) × (length l.out ≡ length l.initial.out) × (take (l.at + 2 * l.i) l.out ≡ take l.at l.initial.out ++ hex_text (take l.i l.value))
-
-abbrev pub decreases-loop-i : goal.decreases-loop-i
-decreases-loop-i l = length l.value - l.i
+invariant-loop-i l = (length l.out ≡ length l.initial.out) × (take (l.at + 2 * l.i) l.out ≡ take l.at l.initial.out ++ hex_text (take l.i l.value))

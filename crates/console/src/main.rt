@@ -70,13 +70,11 @@ fn feed_all<W: Write>(
     ensures used { IfOk result (λ n. n ≤ 256) }
 {
     let mut used = len;
-    let mut i = 0;
-    while i < chunk.len() {
-        let p = script::feed(store, work, line, used, chunk[i], out);
+    for byte in chunk {
+        let p = script::feed(store, work, line, used, *byte, out);
         let count = p.count;
         write_text(output, &out[0..count])?;
         used = p.len;
-        i += 1;
     }
     Ok(used)
 }

@@ -47,6 +47,7 @@ fn append_pair(area: &mut [u8], m: usize, here: &Position, key: &[u8], value: &[
 }
 
 // The pairs of a leaf, each as a row if no message above says anything of its path.
+#[inline(never)] // its buffers would lie in the frame of every level of the walk
 fn append_pairs(area: &mut [u8], first: usize, entries: Entries, here: &Position) -> usize
     requires { (values_fit_among (left_of entries) ≡ true)
         × Room area.old first (keep (passing here.now.trail) (under_prefix here.now.prefix (pairs_among (left_of entries))))
@@ -66,6 +67,7 @@ fn append_pairs(area: &mut [u8], first: usize, entries: Entries, here: &Position
 
 // The puts among entries, each as a row at its place among the rows from `first` on if no later entry of its node and no message above says anything
 // of its path. There is no such row yet.
+#[inline(never)] // its buffers would lie in the frame of every level of the walk
 fn insert_puts(
     area: &mut [u8],
     first: usize,

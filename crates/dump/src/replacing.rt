@@ -1,5 +1,5 @@
 // Puts of the root that go into the rows of its children, oldest first, where the root's messages are all puts: no message is held against another
-// entry then. Relies on the readers of nodes (node, live_count) and on insertion (a row set by its path).
+// entry then. Relies on the readers of nodes (node, live_count), on packed and on insertion (a row set by its path).
 ghost use Rattle.std.specs.Prelude.{◌≡◌, []};
 ghost use Rattle.node.specs.Lent.{left_of};
 ghost use Rattle.dump.specs.Insertion.Insertion.{Laid, laid};

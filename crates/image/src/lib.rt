@@ -1,5 +1,5 @@
 // The numbers of the format, the refusal that is the error of the store's calls, and the place of a listing. specs/Answers.antt gives each refusal
-// its number; the other files of specs/ hold the paper's definitions, which the contracts of the crates above cite. Relies on no other crate.
+// its number; the other files of specs/ hold the paper's definitions, which the contracts of the crates above cite. Relies on std alone.
 
 #![tactic(auto)]
 

@@ -1,5 +1,5 @@
 // Where a walk stands: what all paths there begin with, the nodes above that hold messages, and notes of what these say. How a walk comes to a node
-// (arrive) and to its children (enter). Relies on trail, notes and node; specs/Noted says what the notes tell.
+// (arrive) and to its children (enter). Relies on trail, notes, node and octets; specs/Noted says what the notes tell.
 ghost use Rattle.std.specs.Prelude.{◌≡◌, ◌≤◌, length};
 ghost use Rattle.live_count.specs.Walk.{LiftsWithin};
 
@@ -86,6 +86,7 @@ impl<'a> Position<'a> {
 
     // Comes to a node from above it. The pivots lack what its parent lifts, which is the prefix there. Gives how many bytes it lifts of them; none
     // where that is too long for any path.
+    #[inline(never)] // its buffers would lie in the frame of every level of a walk
     pub fn arrive(&mut self, above: &Position<'a>, low: &[u8], high: &[u8]) -> Option<usize>
         requires { Tells above.now low.now high.now }
         ensures { MatchOption result (64 < length (above.now.prefix ++ shared low.now high.now)) (λ k. Standing above.now low.now high.now k self.new) }

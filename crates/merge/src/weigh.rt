@@ -1,5 +1,5 @@
 // How many bytes the entries of two neighbours take in one node. Only reads.
-// Relies on the readers of nodes (node) and on octets; Laws/Joined says what an entry weighs.
+// Relies on the readers of nodes (node), push and octets; Laws/Joined says what an entry weighs.
 ghost use Rattle.std.specs.Prelude.{◌≡◌, ◌≤◌, length};
 ghost use Rattle.laws.specs.Encode.{bytes_of, bytes_of_all};
 ghost use Rattle.node.specs.Lent.{entry_is, left_of};

@@ -1,5 +1,5 @@
 // The page of a node that is being written: entries, one behind the other, on zeros; and the page as a node of a store. Relies on writer, which lays
-// out an entry and the first bytes of a page.
+// out an entry and the first bytes of a page, on octets, which copies, and on std, whose Model lets contracts see what a page holds.
 ghost use Rattle.std.specs.Prelude.{◌≡◌, ◌+◌, ◌*◌, ◌<◌, ◌≤◌, [], ◌++◌, length, take, drop};
 ghost use Rattle.image.specs.Entry.{pair, child};
 ghost use Rattle.laws.specs.Encode.{bytes_of};

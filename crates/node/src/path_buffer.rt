@@ -1,5 +1,5 @@
 // A path, or the beginning of one, held by value: at most 64 bytes, as a path has. Contracts see it as the list of its bytes.
-// Relies on octets and on the longest path of image.
+// Relies on octets, on the longest path of image and on std (Model).
 ghost use Rattle.std.specs.Prelude.{◌≡◌, ◌≤◌, ◌<◌, ◌++◌, [], List, MatchOption, ℕ, take, length};
 ghost use Rattle.node.specs.Fitted.{fitted, buffer_is};
 

@@ -1,5 +1,5 @@
 // Strings of bytes and the numbers in them: what the other crates read, compare and write bytes with. One loop compares from the front,
-// `common_length`, and `precedes` follows from it by laws; `equal` compares from the end. Relies on the library's slices and numbers alone.
+// `common_length`, and `precedes` follows from it by laws; `equal` compares from the end. Relies on std alone, for its slices and numbers.
 
 #![tactic(auto)]
 

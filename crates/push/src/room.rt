@@ -1,5 +1,5 @@
 // Whether all children of an interior node have room for its messages: which of them touch a child, and how many bytes they take there.
-// Only reads. Relies on the readers of nodes (node) and on octets; specs/Laws says what a message brings and what room is.
+// Only reads. Relies on the readers of nodes (node), on octets and laws; specs/Laws says what a message brings and what room is.
 ghost use Rattle.std.specs.Prelude.{◌≡◌, List, ℕ, ◌<◌, ◌≤◌, ◌+◌, length, drop, leb};
 ghost use Rattle.image.specs.Entry.{message};
 ghost use Rattle.laws.specs.Encode.{bytes_of, bytes_of_all};

@@ -1,6 +1,6 @@
 // Questions 1 and 2 of every call that is lent a work area: are store and work area long enough, and is the image sound? And what such a call
 // needs at its end: the work area zeroed. The calls that change a store ask this first.
-// Relies on node (question 1), soundness (question 2), tree_check (what its walk counted) and packed (the area).
+// Relies on node (question 1), soundness (question 2), tree_check (what its walk counted), laws and packed (the area).
 
 #![tactic(auto)]
 

@@ -1,5 +1,5 @@
 // What next asks of the paths that its walk comes to: the best so far is the least that is wanted, unfit and present, and a child that can hold no
-// better one is passed over. Relies on joined, path (shapes), lookup and node's buffer of a path.
+// better one is passed over. Relies on joined, path (shapes), lookup, node's buffer of a path and laws.
 ghost use Rattle.std.specs.Prelude.{◌≡◌, true, ◌++◌, ◌+◌, ◌≤◌, length};
 ghost use Rattle.image.specs.Sound.{sound};
 ghost use Rattle.path.specs.Fed.{shape_is};

@@ -1,5 +1,5 @@
 // Whether a leaf, and the messages of an interior node, are sound, and how many entries each has: one walk tells both.
-// Relies on node for the entries, on octets for their order and on path for the shape of their keys.
+// Relies on node for the entries, on octets for their order on path for the shape of their keys, and on laws.
 ghost use Rattle.std.specs.Prelude.{◌≡◌, length};
 ghost use Rattle.image.specs.Prelude.{none};
 ghost use Rattle.image.specs.Entry.{entries_of};

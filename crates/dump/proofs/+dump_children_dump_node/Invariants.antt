@@ -1,5 +1,5 @@
 -- The loop of `dump_children`: the rows so far, and those of the children left, make all. The measure of the cycle is the level, which falls from a
--- node to its children. Relies on specs/Dump and specs/NodeSteps.
+-- node to its children. Relies on specs/NodeSteps.
 use Rattle.std.specs.Prelude.{true, ◌*◌, ◌+◌, ◌≡◌, ◌++◌, length}
 use Rattle.image.specs.Image.{tree_at, nodes_of, forest_of}
 use Rattle.image.specs.Meaning.{rows_in}

@@ -1,6 +1,6 @@
 -- Bytes put into a page at a place: what every writer of bytes leaves, and its laws (one put after another is one put).
-use Rattle.std.specs.Prelude.{ℕ, suc, ◌+◌, ◌/◌, ◌%◌, ◌≤◌, ◌<◌, ◌-◌, ◌≡◌, List, [], ◌∷◌, ◌++◌, length, take, drop, get_or, set}
-use Rattle.image.specs.Prelude.{sym, ap, ap₂, ◌∙◌, append_assoc, arith, length-append, length-drop, take-append-drop, List·getD-append, set_split, length-take-le, drop-drop, drop-append-add, take_at, get_or-append-add}
+use Rattle.std.specs.Prelude.{ℕ, zero, suc, ◌+◌, ◌/◌, ◌%◌, ◌≤◌, ◌<◌, ◌-◌, ◌≡◌, refl, List, [], ◌∷◌, ◌++◌, length, take, drop, get_or, set, replicate}
+use Rattle.image.specs.Prelude.{sym, ap, ap₂, ◌∙◌, append_assoc, arith, length-append, length-drop, take-append-drop, length-replicate, List·getD-append, set_split, length-take-le, drop-drop, drop-append-add, take_at, get_or-append-add}
 use Rattle.image.specs.Bytes.{u16_bytes, u16}
 
 -- the bytes bs in place of as many bytes of the page, from `at` on
@@ -57,6 +57,28 @@ put_two page at v h =
     ap (λ p. set p (at + 1) (v / 256)) e
     ∙ put_one (put page at (v % 256 ∷ [])) (at + 1) (v / 256) (omega arith)
     ∙ put-put page at (v % 256 ∷ []) (v / 256 ∷ []) (omega arith)
+
+-- the step of a fill
+pub put_fill : (page : List ℕ) (at count v i : ℕ) → at + count ≤ length page → i < count
+    → set (put page at (replicate i v)) (at + i) v ≡ put page at (replicate (i + 1) v)
+put_fill page at count v i h k =
+    let n : length (replicate i v) ≡ i = length-replicate i v in
+    let s = put-size page at (replicate i v) (omega arith) in
+    let z : at + i ≡ at + length (replicate i v) = omega arith in
+    let y : i + 1 ≡ suc i = omega arith in
+    put_one (put page at (replicate i v)) (at + i) v (omega arith)
+    ∙ ap (λ q. put (put page at (replicate i v)) q (v ∷ [])) z
+    ∙ put-put page at (replicate i v) (v ∷ []) (omega arith)
+    ∙ ap (put page at) (replicate_more i v ∙ ap (λ q. replicate q v) (sym y))
+  where
+    replicate_more : (i v : ℕ) → replicate i v ++ (v ∷ []) ≡ replicate (suc i) v
+    replicate_more zero v = refl
+    replicate_more (suc i) v = ap (λ l. v ∷ l) (replicate_more i v)
+
+-- the same for a page that is known to be filled so far
+module _ (page now : List ℕ) (at count v i : ℕ) (filled : now ≡ put page at (replicate i v)) where
+  pub fill_more : at + count ≤ length page → i < count → set now (at + i) v ≡ put page at (replicate (i + 1) v)
+  fill_more h k = ap (λ p. set p (at + i) v) filled ∙ put_fill page at count v i h k
 
 pub get-there : (page : List ℕ) (at : ℕ) (bs : List ℕ) (j : ℕ) → at ≤ length page → j < length bs → get_or (put page at bs) (at + j) 0 ≡ get_or bs j 0
 unfolding put

@@ -121,5 +121,8 @@ pub fn fill_at(page: &mut [u8], at: usize, count: usize, byte: u8)
     requires { at + count ≤ length page.old }
     ensures { page.new ≡ put page.old at (replicate count byte) }
 {
-    page[at..at + count].fill(byte);
+    // Not by `fill`: that brings a trap into the module of the other processors (docs/TARGETS.md).
+    for i in 0..count {
+        page[at + i] = byte;
+    }
 }

@@ -242,7 +242,7 @@ pub fn check_tree(store: &[u8], seen: &mut [u8; 1024]) -> Option<Tally>
     if !header::header_good(store) {
         return None;
     }
-    seen.fill(0);
+    *seen = [0; 1024];
     let root = node::header::read_root(store);
     let levels = node::header::read_levels(store);
     check_node(store, root, levels, &[], &[255], path::start(), seen)

@@ -36,7 +36,7 @@ pub fn mark_nodes(store: &[u8], seen: &mut [u8; 1024]) -> bool
     requires { (whole_nodes (length store.now) ≡ true) × (sound store.now ≡ true) }
     ensures { Marks store.now seen.new × (result ≡ settled store.now) }
 {
-    seen.fill(0);
+    *seen = [0; 1024];
     let root = node::header::read_root(store);
     let levels = node::header::read_levels(store);
     mark_tree(store, root, levels, seen)

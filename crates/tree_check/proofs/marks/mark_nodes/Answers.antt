@@ -1,6 +1,6 @@
 -- `mark_nodes` meets its contract: from the root, with no mark set. Relies on specs/MarkSteps and on lookup's laws of the root.
 use Rattle.std.proofs.Common.{rules}
-use Rattle.std.specs.Prelude.{◌≡◌, length}
+use Rattle.std.specs.Prelude.{◌≡◌, length, refl}
 use Rattle.image.specs.Prelude.{arith}
 use Rattle.lookup.specs.Root.{long-enough, root-usable}
 use Rattle.node.specs.Whole.{whole_parts}
@@ -18,4 +18,4 @@ mark_tree-requires c = ((whole_parts _ c.requires.0).few, root-usable _ _ _ c.re
 
 pub returns : goal.returns
 returns c = let h : length c.args.seen.now ≡ 1024 = search rules in
-    store-marked c.args.store.now (length c.args.seen.now) _ _ _ c.requires.1 (omega (arith, (whole_parts (length c.args.store.now) c.requires.0).few)) (c.fill.ensures.after (λ y h. h)) c.read_root-root.ensures.0 c.read_levels-levels.ensures.0 _ _ c.mark_tree.ensures
+    store-marked c.args.store.now 1024 _ _ _ c.requires.1 (omega (arith, (whole_parts (length c.args.store.now) c.requires.0).few)) refl c.read_root-root.ensures.0 c.read_levels-levels.ensures.0 _ _ c.mark_tree.ensures

@@ -125,6 +125,9 @@ fn dump_node<'a>(
         (rows (tree_at level store.now node.entry.number) (above.now.prefix ++ node.entry.low.now)
         (above.now.prefix ++ node.entry.high.now))) }
 {
+    // Named for the borrow checker, which takes a Position apart.
+    let _trail = &above.trail;
+    let _notes = &above.notes;
     let Some(lifted) = here.arrive(above, node.low, node.high) else {
         return m;
     };
@@ -169,6 +172,9 @@ fn dump_children<'a>(
         (here.now.prefix ++ children.entry.high.now))) }
 {
     let mut below = Position::new();
+    // Named for the borrow checker, which takes a Position apart.
+    let _trail = &below.trail;
+    let _notes = &below.notes;
     let mut m = first;
     for child in children {
         m = dump_node(store, area, m, level, child, here, &mut below);
@@ -189,6 +195,9 @@ fn dump_putting(store: &[u8], area: &mut [u8], level: usize, root: usize) -> usi
 {
     let entries = Entries::of_node(store, root);
     let above = Position::new();
+    // Named for the borrow checker, which takes a Position apart.
+    let _trail = &above.trail;
+    let _notes = &above.notes;
     let m = dump_children(
         store,
         area,
@@ -220,6 +229,9 @@ pub fn dump(store: &[u8], area: &mut [u8]) -> usize
         high: &[255],
     };
     let above = Position::new();
+    // Named for the borrow checker, which takes a Position apart.
+    let _trail = &above.trail;
+    let _notes = &above.notes;
     let mut here = Position::new();
     dump_node(store, area, 0, level, root, &above, &mut here)
 }

@@ -1,8 +1,7 @@
 -- Step lemmas of the count by notes that are handed down. Relies on the definitions of Noted and on the contracts of notes.
 use Rattle.std.specs.Prelude.{ℕ, suc, ◌+◌, ◌<◌, ◌≤◌, ◌≡◌, refl, List, [], ◌∷◌, ◌++◌, Bool, true, ◌&&◌, length, take, drop, get_or, IsSome, unwrap_or}
 use Rattle.std.specs.List.{list_all, All}
-use Rattle.std.proofs.lemmas.List.Folds.{list_all_more}
-use Rattle.image.specs.Prelude.{sym, ap, ap₂, ◌∙◌, append_assoc, arith, subst, drop-append-le, drop_at, take_all}
+use Rattle.image.specs.Prelude.{sym, ap, ap₂, ◌∙◌, append_assoc, arith, subst, drop-append-le, drop_at, and_comm, add-one}
 use Rattle.image.specs.Bytes.{shared}
 use Rattle.image.specs.Path.{owns}
 use Rattle.image.specs.Entry as defined
@@ -10,8 +9,9 @@ use Rattle.octets.specs.Beginnings.{shared-left, shared-right, shared-take}
 use Rattle.octets.specs.Order.{before-append, begins-split, and_assoc}
 use Rattle.node.specs.Lent.{left_of}
 use Rattle.node.specs.Search.Latest.{newest_among}
-use Rattle.live_count.specs.Notes.Notes.{quiet, silent, Empty, Gathered, none_covers}
+use Rattle.live_count.specs.Notes.Notes.{quiet, paired, silent, Empty, Gathered, none_covers}
 use Rattle.live_count.specs.Notes.Steps.{uncovered-all, gathered-more}
+use Rattle.live_count.specs.Notes.Paired.{all-from}
 use Rattle.live_count.specs.Live.{holds_no_message, short}
 use Rattle.live_count.specs.Walk.{stages_of, says_nothing, passes, passing, LiftsWithin, Deeper}
 use Rattle.live_count.specs.Noted.{Tells, Standing, TrailNoted, Entered}
@@ -36,25 +36,26 @@ unfolding passes
 passes-quiet xs prefix k h = ap (λ b. short (prefix ++ k) && b) (all-quiet xs prefix k h)
 
 pub empty-quiet : (n : Notes) (k : List ℕ) → Empty n → silent n k ≡ true
-empty-quiet n k e = ap (λ c. quiet (take (unwrap_or c 0) n.each) k) e
+empty-quiet n k e = ap (λ c. quiet (take (unwrap_or c 0) (paired n.clears n.paths)) k) e
 
--- the loop over the trail
-pub trail-on : (lo hi after prefix : List ℕ) (xs : List Stage) (i : ℕ) (d : Stage) (first now next : Notes) → i < length xs → after ≡ drop (get_or xs i d).lift prefix
-    → Gathered lo hi (λ k. list_all (quiet_at prefix k) (take i xs)) first now
+-- the loop over the trail, from its last node on
+pub trail-on : (lo hi after prefix : List ℕ) (xs : List Stage) (i j : ℕ) (d : Stage) (first now next : Notes) → i < length xs → i + 1 ≡ j → after ≡ drop (get_or xs i d).lift prefix
+    → Gathered lo hi (λ k. list_all (quiet_at prefix k) (drop j xs)) first now
     → Gathered lo hi (λ k. none_covers (left_of (get_or xs i d).entries) (after ++ k)) now next
-    → Gathered lo hi (λ k. list_all (quiet_at prefix k) (take (i + 1) xs)) first next
-trail-on lo hi after prefix xs i d first now next h e f g =
-    gathered-more lo hi (λ k. list_all (quiet_at prefix k) (take i xs)) (λ k. none_covers (left_of (get_or xs i d).entries) (after ++ k)) (λ k. list_all (quiet_at prefix k) (take (i + 1) xs)) first now next f g
-    (λ k o. list_all_more (quiet_at prefix k) xs i d h ∙ ap (λ w. list_all (quiet_at prefix k) (take i xs) && none_covers (left_of (get_or xs i d).entries) (w ++ k)) (sym e))
+    → Gathered lo hi (λ k. list_all (quiet_at prefix k) (drop i xs)) first next
+trail-on lo hi after prefix xs i j d first now next h q e f g =
+    gathered-more lo hi (λ k. list_all (quiet_at prefix k) (drop j xs)) (λ k. none_covers (left_of (get_or xs i d).entries) (after ++ k)) (λ k. list_all (quiet_at prefix k) (drop i xs)) first now next f g
+    (λ k o. all-from (quiet_at prefix k) xs i d h ∙ and_comm (quiet_at prefix k (get_or xs i d)) (list_all (quiet_at prefix k) (drop (suc i) xs))
+    ∙ ap₂ (λ n w. list_all (quiet_at prefix k) (drop n xs) && none_covers (left_of (get_or xs i d).entries) (w ++ k)) (sym (add-one i) ∙ q) (sym e))
 
 pub trail-told : (p : Position) (lo hi : List ℕ) (ys : List Stage) (n : ℕ) (first now : Notes) → LiftsWithin (length p.prefix) p.trail → Empty first
-    → ys ≡ stages_of p.trail → length ys ≤ n → Gathered lo hi (λ k. list_all (quiet_at p.prefix k) (take n ys)) first now
+    → ys ≡ stages_of p.trail → n ≡ 0 → Gathered lo hi (λ k. list_all (quiet_at p.prefix k) (drop n ys)) first now
     → IsSome now.count → (k : List ℕ) → owns lo hi k ≡ true → passing p.trail (p.prefix ++ k) ≡ short (p.prefix ++ k) && silent now k
 trail-told p lo hi ys n first now f e q m g s k o =
     passes-quiet (stages_of p.trail) p.prefix k f
     ∙ ap (λ x. short (p.prefix ++ k) && x)
-    (ap (λ xs. list_all (quiet_at p.prefix k) xs) (sym q ∙ sym (take_all n ys m))
-    ∙ sym (g.tells s k o ∙ ap (λ x. x && list_all (quiet_at p.prefix k) (take n ys)) (empty-quiet first k e)))
+    (ap₂ (λ i xs. list_all (quiet_at p.prefix k) (drop i xs)) (sym m) (sym q)
+    ∙ sym (g.tells s k o ∙ ap (λ x. x && list_all (quiet_at p.prefix k) (drop n ys)) (empty-quiet first k e)))
 
 pub trail-noted : (p r : Position) (lo hi : List ℕ) → r.prefix ≡ p.prefix → r.trail ≡ p.trail
     → (IsSome r.notes.count → (k : List ℕ) → owns lo hi k ≡ true → passing p.trail (p.prefix ++ k) ≡ short (p.prefix ++ k) && silent r.notes k) → TrailNoted p lo hi r

@@ -1,3 +1,4 @@
 pub mod Notes
+pub mod Paired
 pub mod Apart
 pub mod Steps

@@ -3,7 +3,7 @@
 use Rattle.std.specs.Prelude.{ℕ, ◌+◌, ◌-◌, ◌<◌, ◌≤◌, ◌≡◌, refl, List, [], ◌∷◌, ◌++◌, Bool, true, false, ◌&&◌, length, take, drop, get_or, leb, zero, suc}
 use Rattle.std.specs.List.{list_all}
 use Rattle.std.specs.Borrow.{Bor}
-use Rattle.image.specs.Prelude.{sym, ap, ap₂, ◌∙◌, true≢false, and-true, arith, length-append, le-leb, lt-leb, take_all, length-drop, Option, none, some}
+use Rattle.image.specs.Prelude.{sym, ap, ap₂, ◌∙◌, true≢false, and-true, arith, length-append, le-leb, lt-leb, length-drop, Option, none, some}
 use Rattle.image.specs.Entry as defined
 use Rattle.octets.specs.Order.{and-false, and_assoc}
 use Rattle.std.proofs.lemmas.List.Folds.{list_all_at, list_all-append}
@@ -33,11 +33,11 @@ hidden xs q i d r ys e l h n =
     let f : says_nothing q (get_or ys i d) ≡ false = ap (λ z. holds_no_message (newest_among (left_of (get_or ys i d).entries) z)) (sym (part-rest (get_or ys i d).lift q)) ∙ sym h ∙ n in
     sym (ap (λ zs. short q && list_all (says_nothing q) zs) (sym e) ∙ ap (λ x. short q && x) (list_all_at (says_nothing q) ys i d l f) ∙ and-false (short q))
 
-pub seen : (xs : List Stage) (q : List ℕ) (n : ℕ) (ys : List Stage) → ys ≡ xs → length q ≤ 64 → length ys ≤ n → list_all (says_nothing q) (take n ys) ≡ true → true ≡ passes xs q
+pub seen : (xs : List Stage) (q : List ℕ) (n : ℕ) (ys : List Stage) → ys ≡ xs → length q ≤ 64 → n ≡ 0 → list_all (says_nothing q) (drop n ys) ≡ true → true ≡ passes xs q
 unfolding passes short
 seen xs q n ys e l m h =
     sym (ap (λ zs. short q && list_all (says_nothing q) zs) (sym e) ∙ ap (λ x. x && list_all (says_nothing q) ys) (le-leb (length q) 64 l)
-    ∙ ap (λ zs. list_all (says_nothing q) zs) (sym (take_all n ys m)) ∙ h)
+    ∙ ap (λ i. list_all (says_nothing q) (drop i ys)) (sym m) ∙ h)
 
 -- a path that is too long passes no trail
 pub passes-short : (t : Trail) → Shortens (λ q. passing t q)

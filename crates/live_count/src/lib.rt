@@ -76,6 +76,9 @@ pub fn count_node<'a>(
         (drop (lifts node.entry.low.now node.entry.high.now) node.entry.high.now)))
         × (result ≤ 65535) }
 {
+    // Named for the borrow checker, which takes a Position apart.
+    let _trail = &above.trail;
+    let _notes = &above.notes;
     let Some(lifted) = here.arrive(above, node.low, node.high) else {
         return 0;
     };
@@ -107,6 +110,9 @@ pub fn count_children<'a>(
         × (result ≤ 65535) }
 {
     let mut below = Position::new();
+    // Named for the borrow checker, which takes a Position apart.
+    let _trail = &below.trail;
+    let _notes = &below.notes;
     let mut total = 0;
     for child in children {
         let count = count_node(store, level, child, here, &mut below);
@@ -127,6 +133,9 @@ pub fn count_paths(store: &[u8]) -> usize
     };
     let levels = node::header::read_levels(store);
     let above = Position::new();
+    // Named for the borrow checker, which takes a Position apart.
+    let _trail = &above.trail;
+    let _notes = &above.notes;
     let mut here = Position::new();
     count_node(store, levels, root, &above, &mut here)
 }

@@ -108,32 +108,31 @@ impl<'b> Keys<'b> {
     }
 }
 
-// At most 48 notes, the oldest first; their count is none where there was no room, and then they tell nothing. A root written full holds 45 drops of
-// paths of 18 bytes. With 64, the deepest walk took more stack than the library may: each level has its own notes.
+// At most 64 notes; their count is none where there was no room, and then they tell nothing. Each level of a walk has its own, so that their paths
+// and their kinds lie apart: a note takes 17 bytes of stack, not 24.
 #[derive(Clone, Copy)]
 pub struct Notes<'a> {
-    pub each: [Note<'a>; 48],
+    pub paths: [&'a [u8]; 64],
     pub count: Option<usize>,
-    ghost full: { length each ≡ 48 },
-    ghost few: { unwrap_or count 0 ≤ 48 },
+    pub clears: [bool; 64],
+    ghost full: { length paths ≡ 64 },
+    ghost alike: { length clears ≡ 64 },
+    ghost few: { unwrap_or count 0 ≤ 64 },
 }
 
 impl<'a> Notes<'a> {
-    ghost use Rattle.std.specs.Prelude.{◌++◌, ℕ, List, MatchOption, IsNone, IsSome, not};
-    ghost use Rattle.live_count.specs.Notes.Notes.{note_covers, none_covers, silent, Empty, Gathered};
+    ghost use Rattle.std.specs.Prelude.{◌++◌, ◌<◌, ℕ, List, MatchOption, IsNone, IsSome, not};
+    ghost use Rattle.live_count.specs.Notes.Notes.{note_covers, none_covers, silent, Stands, Empty, Gathered};
     ghost use Rattle.node.specs.Lent.{left_of};
 
     // No notes.
     pub fn new() -> Notes<'a>
         ensures { Empty result }
     {
-        let note = Note {
-            clears: false,
-            path: &[],
-        };
         Notes {
-            each: [note; 48],
+            paths: [&[]; 64],
             count: Some(0),
+            clears: [false; 64],
         }
     }
 
@@ -144,12 +143,31 @@ impl<'a> Notes<'a> {
         self.count = Some(0);
     }
 
-    // Whether no note is on a key; none where they tell nothing.
+    // The note at a place.
+    #[inline(always)]
+    fn note(&self, i: usize) -> Note<'a>
+        requires { i < 64 }
+        ensures { Stands self.now i result }
+    {
+        Note {
+            clears: self.clears[i],
+            path: self.paths[i],
+        }
+    }
+
+    // Whether no note is on a key; none where they tell nothing. The newest is asked first: it is the nearest one's, where a clear hides most.
     pub fn is_quiet(&self, key: &[u8]) -> Option<bool>
         ensures { MatchOption result (IsNone self.now.count) (λ r. IsSome self.now.count × (r ≡ silent self.now key.now)) }
     {
         let count = self.count?;
-        Some(self.each[..count].iter().all(|note| !note.covers(key)))
+        let mut i = count;
+        while 0 < i {
+            i -= 1;
+            if self.note(i).covers(key) {
+                return Some(false);
+            }
+        }
+        Some(true)
     }
 
     // A note behind the others. One that says what the last one does is not kept: a path that is put again and again needs one note.
@@ -161,16 +179,17 @@ impl<'a> Notes<'a> {
             return;
         };
         if 0 < count {
-            let last = self.each[count - 1];
+            let last = self.note(count - 1);
             if last.is_like(note) {
                 return;
             }
         }
-        if 48 <= count {
+        if 64 <= count {
             self.count = None;
             return;
         }
-        self.each[count] = note;
+        self.paths[count] = note.path;
+        self.clears[count] = note.clears;
         self.count = Some(count + 1);
     }
 
@@ -192,16 +211,19 @@ impl<'a> Notes<'a> {
         let Some(count) = others.count else {
             return;
         };
-        for note in &others.each[..count] {
-            self.add(*note, keys);
+        for i in 0..count {
+            self.add(others.note(i), keys);
         }
     }
 
-    // What the messages among entries say of the keys, behind these.
+    // What the messages among entries say of the keys, behind these. Where there is no room, no more is read.
     pub fn add_messages(&mut self, entries: Entries<'a>, keys: &Keys)
         ensures { Gathered keys.now.low.now keys.now.high.now (λ k. none_covers (left_of entries.entry) (keys.now.after.now ++ k)) self.old self.new }
     {
         for entry in entries {
+            if self.count.is_none() {
+                return;
+            }
             if let Some(note) = Note::of(entry) {
                 self.add(note, keys);
             }

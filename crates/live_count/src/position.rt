@@ -9,7 +9,7 @@ use crate::visibility;
 use node::entries::{Entries, Entry};
 use node::path_buffer::PathBuffer;
 
-#[derive(Drop)]
+#[derive(Clone, Copy)]
 pub struct Position<'a> {
     pub prefix: PathBuffer,
     pub trail: Trail<'a>,
@@ -66,7 +66,7 @@ impl<'a> Position<'a> {
         visibility::none_covers(later, key) && self.is_live(key)
     }
 
-    // The messages of the trail that can be on the keys, as notes.
+    // The messages of the trail that can be on the keys, as notes, the nearest node's first.
     fn note_trail(&mut self, low: &[u8], high: &[u8])
         ensures { TrailNoted self.old low.now high.now self.new }
     {
@@ -74,7 +74,11 @@ impl<'a> Position<'a> {
         let trail = self.trail;
         let notes = &mut self.notes;
         notes.clear();
-        for stage in trail.nodes() {
+        let nodes = trail.nodes();
+        let mut depth = nodes.len();
+        while 0 < depth {
+            depth -= 1;
+            let stage = nodes[depth];
             let keys = Keys {
                 after: &prefix[stage.lift..],
                 low,
@@ -95,8 +99,10 @@ impl<'a> Position<'a> {
         let after = &low[..lifted];
         let low = &low[lifted..];
         let high = &high[lifted..];
+        // Read before anything is written: of a copy from one position to another LLVM makes a memmove, which C would have to bring.
+        let trail = above.trail;
         self.prefix = above.prefix.followed_by(after)?;
-        self.trail = above.trail;
+        self.trail = trail;
         if above.notes.count.is_some() {
             self.notes.clear();
             self.notes

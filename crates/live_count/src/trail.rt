@@ -55,12 +55,16 @@ impl<'a> Trail<'a> {
         self.depth += 1;
     }
 
-    // Whether no node has a message on a path that is short enough.
+    // Whether no node has a message on a path that is short enough. The nearest is asked first: where it clears, it hides most.
     pub fn is_visible(&self, path: &[u8]) -> bool
         requires { (length path.now ≤ 64) × LiftsWithin (length path.now) self.now }
         ensures { result ≡ passing self.now path.now }
     {
-        for stage in self.nodes() {
+        let nodes = self.nodes();
+        let mut depth = nodes.len();
+        while 0 < depth {
+            depth -= 1;
+            let stage = nodes[depth];
             if !visibility::none_covers(stage.entries, &path[stage.lift..]) {
                 return false;
             }

@@ -2,7 +2,7 @@
 use Rattle.std.specs.Prelude.{ℕ, ◌+◌, ◌<◌, ◌≤◌, ◌≡◌, refl, List, ◌++◌, [], cond, length, take, drop, leb, true, false, Bool, replicate}
 use Rattle.std.specs.Prelude as found
 use Rattle.image.specs.Prelude.{Option, none, some, sym, ap, ◌∙◌, arith, length-append, take_at, le-leb, lt-leb, leb-false}
-use Rattle.octets.specs.Put.{put, put-put}
+use Rattle.octets.specs.Put.{put, put-put, put-size}
 
 -- the longest path that a buffer holds: as long as the longest well-formed path
 abbrev pub room : ℕ
@@ -11,6 +11,10 @@ room = 64
 -- a path that is short enough, or none
 unfoldable pub fitted : List ℕ → Option (List ℕ)
 fitted x = cond (leb (length x) room) (some x) none
+
+-- the bytes of a buffer that holds x: behind it stand zeros
+abbrev pub filled : List ℕ → List ℕ
+filled x = put (replicate room 0) 0 x
 
 -- the path in a buffer, if there is a buffer
 abbrev pub buffer_is : found.Option (List ℕ) → Option (List ℕ)
@@ -29,14 +33,22 @@ pub joined-long : (a b : List ℕ) → 64 < length a + length b → none ≡ fit
 joined-long a b h = let l = length-append a b in sym (fits_not (a ++ b) (omega arith))
 
 -- two parts copied into a buffer, one behind the other
-pub joined-is : (z a b : List ℕ) (n : ℕ) → length z ≡ 64 → n ≡ length a + length b → n ≤ 64 → some (take n (put (put z 0 a) (length a) b)) ≡ fitted (a ++ b)
-unfolding put
-joined-is z a b n l e h =
-    let m = length-append a b in
-    let s : length a ≡ 0 + length a = omega arith in
-    let p : put (put z 0 a) (length a) b ≡ put z 0 (a ++ b) = ap (λ k. put (put z 0 a) k b) s ∙ put-put z 0 a b (omega arith) in
-    let q : take n (put z 0 (a ++ b)) ≡ a ++ b = take_at (a ++ b) (drop (0 + length (a ++ b)) z) n (omega arith) in
-    ap (λ x. some x) (ap (take n) p ∙ q) ∙ sym (fits (a ++ b) (omega arith))
+module _ (z a b : List ℕ) (n : ℕ) (l : length z ≡ 64) (e : n ≡ length a + length b) (h : n ≤ 64) where
+  both : put (put z 0 a) (length a) b ≡ put z 0 (a ++ b)
+  both = let s : length a ≡ 0 + length a = omega arith in ap (λ k. put (put z 0 a) k b) s ∙ put-put z 0 a b (omega arith)
+
+  taken : take n (put (put z 0 a) (length a) b) ≡ a ++ b
+  unfolding put
+  taken = let m = length-append a b in ap (take n) both ∙ take_at (a ++ b) (drop (0 + length (a ++ b)) z) n (omega arith)
+
+  pub joined-is : some (take n (put (put z 0 a) (length a) b)) ≡ fitted (a ++ b)
+  joined-is = let m = length-append a b in ap (λ x. some x) taken ∙ sym (fits (a ++ b) (omega arith))
+
+  pub joined-length : length (put (put z 0 a) (length a) b) ≡ 64
+  joined-length = let m = length-append a b in ap length both ∙ put-size z 0 (a ++ b) (omega arith) ∙ l
+
+  pub joined-laid : put (put z 0 a) (length a) b ≡ put z 0 (take n (put (put z 0 a) (length a) b))
+  joined-laid = both ∙ ap (put z 0) (sym taken)
 
 -- what a buffer that holds what fits tells of it
 pub fitted-is : (l x : List ℕ) → some l ≡ fitted x → l ≡ x

@@ -5,8 +5,8 @@ ghost use Rattle.image.specs.Bytes.{u16};
 ghost use Rattle.image.specs.Meaning.{says_of};
 ghost use Rattle.node.specs.Cut.{cut};
 ghost use Rattle.node.specs.Entries.{listed};
-ghost use Rattle.node.specs.Whole.{HasEntries};
-ghost use Rattle.node.specs.Lent.{message_is, entry_is, left_of, said_is, path_of, path_is, Unkeyed, Keyed, Unread, Leads, NotOf, IsOf};
+ghost use Rattle.node.specs.Whole.{HasNode};
+ghost use Rattle.node.specs.Lent.{message_is, entry_is, left_of, said_is, Unkeyed, Keyed, Unread, Leads, NotOf, IsOf};
 
 use crate::header;
 
@@ -54,22 +54,6 @@ impl<'a> Message<'a> {
                     None
                 }
             }
-        }
-    }
-}
-
-impl<'a> Entry<'a> {
-    // The suffix of a pair or of a put: an entry that may hold a value for it.
-    #[tactic(auto, unfolding(crate::specs::Lent::path_of))]
-    pub fn path(self) -> Option<&'a [u8]>
-        ensures { path_is result ≡ path_of (entry_is self.entry) }
-    {
-        match self {
-            Entry::Pair(key, _) => Some(key),
-            Entry::Child(_, _) => None,
-            Entry::Message(Message::Put(key, _)) => Some(key),
-            Entry::Message(Message::Drop(_)) => None,
-            Entry::Message(Message::Clear(_)) => None,
         }
     }
 }
@@ -131,16 +115,16 @@ pub fn read_entry(bytes: &[u8]) -> Option<(Entry, &[u8])>
 }
 
 impl<'a> Entries<'a> {
-    // The entries of a node of the store.
+    // The entries of a node of the store; of a length that goes past the store's end, as far as the store goes.
     #[tactic(auto, unfolding(crate::specs::Entries::listed))]
     pub fn of_node(store: &'a [u8], num: usize) -> Entries<'a>
-        requires { HasEntries store.now num }
+        requires { HasNode store.now num }
         ensures bytes { result.rest.now ≡ cut store.now (num * 1024 + 8) (num * 1024 + 8 + u16 store.now (num * 1024)) }
         ensures lists { left_of result ≡ listed store.now (num * 1024 + 8) (num * 1024 + 8 + u16 store.now (num * 1024)) }
     {
         let base = num * image::NODE_SIZE;
         let start = base + image::ENTRIES_AT;
-        let stop = start + header::read_length(store, base);
+        let stop = store.len().min(start + header::read_length(store, base));
         Entries {
             rest: &store[start..stop],
         }

@@ -1,22 +1,30 @@
-// A path, or the beginning of one, held by value: at most 64 bytes, as a path has. Contracts see it as the list of its bytes.
-// Relies on octets, on the longest path of image and on std (Model).
-ghost use Rattle.std.specs.Prelude.{◌≡◌, ◌≤◌, ◌<◌, ◌++◌, [], List, MatchOption, ℕ, take, length};
+// A path, or the beginning of one, held by value: at most 64 bytes, as a path has. Contracts see it as the list of its bytes. Zeros stand
+// behind these, so the list tells the fields, as Copy asks. Relies on octets, on the longest path of image and on std (Model).
+ghost use Rattle.std.specs.Prelude.{◌≡◌, ◌≤◌, ◌<◌, ◌++◌, [], MatchOption, length};
 ghost use Rattle.node.specs.Fitted.{fitted, buffer_is};
 
 use std::marker::Model;
 
-#[derive(Drop)]
+#[derive(Clone, Copy)]
 pub struct PathBuffer {
     bytes: [u8; 64],
     len: usize,
 }
 
 impl Model for PathBuffer {
+    ghost use Rattle.std.specs.Prelude.{◌≡◌, ◌≤◌, List, ℕ, length, take};
+    ghost use Rattle.image.specs.Prelude.{sym, arith, length-take-le};
+    ghost use Rattle.node.specs.Fitted.{filled};
+
     ghost Value = { List ℕ };
 
     ghost view = { λ p. take p.len p.bytes };
 
-    ghost invariant = { λ p. p.len ≤ 64 };
+    ghost invariant = { λ p. (p.len ≤ 64) × (length p.bytes ≡ 64) × (p.bytes ≡ filled (take p.len p.bytes)) };
+
+    ghost inverse = { λ x. record { bytes = filled x; len = length x } };
+
+    ghost inverse_ok = { λ p h i. record { bytes = sym h.2 i; len = length-take-le p.len p.bytes (omega (arith, h.0, h.1)) i } };
 }
 
 impl PathBuffer {

@@ -1,6 +1,6 @@
 -- Bytes put into a page at a place: what every writer of bytes leaves, and its laws (one put after another is one put).
 use Rattle.std.specs.Prelude.{ℕ, zero, suc, ◌+◌, ◌/◌, ◌%◌, ◌≤◌, ◌<◌, ◌-◌, ◌≡◌, refl, List, [], ◌∷◌, ◌++◌, length, take, drop, get_or, set, replicate}
-use Rattle.image.specs.Prelude.{sym, ap, ap₂, ◌∙◌, append_assoc, arith, length-append, length-drop, take-append-drop, length-replicate, List·getD-append, set_split, length-take-le, drop-drop, drop-append-add, take_at, get_or-append-add}
+use Rattle.image.specs.Prelude.{sym, ap, ap₂, ◌∙◌, append_assoc, arith, length-append, length-drop, take-append-drop, length-replicate, List·getD-append, set_split, take-suc, length-take-le, drop-drop, drop-append-add, take_at, get_or-append-add}
 use Rattle.image.specs.Bytes.{u16_bytes, u16}
 
 -- the bytes bs in place of as many bytes of the page, from `at` on
@@ -49,6 +49,20 @@ put-put page at a b h =
 pub put_one : (page : List ℕ) (at v : ℕ) → at < length page → set page at v ≡ put page at (v ∷ [])
 unfolding put
 put_one page at v h = let z : suc at ≡ at + 1 = omega arith in set_split page at v h ∙ ap (λ n. take at page ++ (v ∷ drop n page)) z
+
+-- the step of a copy
+pub put-more : (page now : List ℕ) (at : ℕ) (src : List ℕ) (i : ℕ) → at + length src ≤ length page → i < length src → now ≡ put page at (take i src)
+    → set now (at + i) (get_or src i 0) ≡ put page at (take (i + 1) src)
+put-more page now at src i h k e =
+    let n = length-take-le i src (omega arith) in
+    let s = put-size page at (take i src) (omega arith) in
+    let z : at + i ≡ at + length (take i src) = omega arith in
+    let y : i + 1 ≡ suc i = omega arith in
+    ap (λ p. set p (at + i) (get_or src i 0)) e
+    ∙ put_one (put page at (take i src)) (at + i) (get_or src i 0) (omega arith)
+    ∙ ap (λ q. put (put page at (take i src)) q (get_or src i 0 ∷ [])) z
+    ∙ put-put page at (take i src) (get_or src i 0 ∷ []) (omega arith)
+    ∙ ap (put page at) (sym (take-suc src i 0 k) ∙ ap (λ q. take q src) (sym y))
 
 pub put_two : (page : List ℕ) (at v : ℕ) → at + 2 ≤ length page → set (set page at (v % 256)) (at + 1) (v / 256) ≡ put page at (u16_bytes v)
 put_two page at v h =

@@ -113,7 +113,10 @@ pub fn copy_at(page: &mut [u8], at: usize, src: &[u8])
     requires { at + length src.now ≤ length page.old }
     ensures { page.new ≡ put page.old at src.now }
 {
-    page[at..at + src.len()].copy_from_slice(src);
+    // Not by `copy_from_slice`: C would have to bring a memmove (`nm -u`), and most strings here are too short for a call.
+    for i in 0..src.len() {
+        page[at + i] = src[i];
+    }
 }
 
 // The same byte `count` times at a place.

@@ -153,11 +153,18 @@ pub fn goes_on(sh: Shape, s: &[u8]) -> bool
     Reading { components, here }.reads_on(s)
 }
 
-// Whether s is a well-formed path.
+// Whether s is a well-formed path: from no byte on.
 pub fn is_path(s: &[u8]) -> bool
     ensures { result ≡ well_formed s.now }
 {
-    goes_on(start(), s)
+    goes_on(
+        Some(Progress {
+            components: 0,
+            here: 0,
+            bytes: 0,
+        }),
+        s,
+    )
 }
 
 // Whether s is the empty path or a well-formed one.

@@ -21,8 +21,8 @@ fn touches_child(given: Message, child: Branch) -> bool
     match given {
         Message::Put(key, _) | Message::Drop(key) => octets::owned(child.low, child.high, key),
         Message::Clear(key) => {
-            let lifted = &child.low[..octets::common_length(child.low, child.high)];
-            octets::begins_with(key, lifted) || octets::begins_with(lifted, key)
+            let k = octets::common_length(child.low, child.high);
+            octets::begins_with(key, &child.low[..k]) || octets::begins_with(&child.low[..k], key)
         }
     }
 }

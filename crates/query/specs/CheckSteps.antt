@@ -7,7 +7,7 @@ use Rattle.image.specs.Image.{whole_nodes, most_nodes}
 use Rattle.image.specs.Sound.{sound, table_of}
 use Rattle.image.specs.Calls.{first_no}
 use Rattle.image.specs.Contract.{check_no, check_at, CheckMeets}
-use Rattle.image.specs.Answers.{outcome_number, verdict_number, verdict_paths}
+use Rattle.image.specs.Answers.{refusal_number, outcome_number, verdict_number, verdict_paths}
 use Rattle.image.specs.declared.Refusal.{Refusal}
 use Rattle.laws.specs.Refusals.{refusal-some}
 use Rattle.laws.specs.ButLive.{live-is, parts_of, sound-but-live}
@@ -38,7 +38,7 @@ module _ (s : List ℕ) where
       by_questions true f true g = (f, g)
 
   -- the ways out of check
-  pub unfit : (r : Refusal) → outcome_number (Err r) ≡ check_no s → CheckMeets s (verdict_number (Err r)) (verdict_paths (Err r))
+  unfit : (r : Refusal) → outcome_number (Err r) ≡ check_no s → CheckMeets s (verdict_number (Err r)) (verdict_paths (Err r))
   unfolding verdict_number verdict_paths outcome_number
   unfit r e = record { answer = e; beside = beside_no (check_no s) (omega (arith, refusal-some r, e)) }
     where
@@ -46,9 +46,21 @@ module _ (s : List ℕ) where
       beside_no zero h = absurd (omega arith)
       beside_no (suc k) h = unfold check_at in refl
 
-  pub counted : outcome_number (Ok tt) ≡ check_no s → (n : ℕ) → n ≡ u16 s 10 → CheckMeets s (verdict_number (Ok n)) (verdict_paths (Ok n)) × (verdict_paths (Ok n) ≤ most_nodes)
-  unfolding verdict_number verdict_paths check_at outcome_number
-  counted accepts n n-is =
-      let fit = fit-store accepts in
-      let count : n ≡ length (table_of s) = count-is s n fit.1 n-is in
-      (record { answer = accepts; beside = rw (sym accepts) count }, omega (arith, count-few s fit.0 fit.1))
+  module _ (a : Bool) (a-is : a ≡ whole_nodes (length s)) where
+    pub ragged : a ≡ false → CheckMeets s (verdict_number (Err Refusal.Length)) (verdict_paths (Err Refusal.Length))
+    unfolding check_no first_no outcome_number refusal_number
+    ragged e = unfit Refusal.Length (rw (sym a-is ∙ e) refl)
+
+    module _ (a-yes : a ≡ true) (b : Bool) (b-is : b ≡ sound s) where
+      pub unsound : b ≡ false → CheckMeets s (verdict_number (Err Refusal.Unsound)) (verdict_paths (Err Refusal.Unsound))
+      unfolding check_no first_no outcome_number refusal_number
+      unsound e = unfit Refusal.Unsound (rw (sym a-is ∙ a-yes, sym b-is ∙ e) refl)
+
+      pub counted : b ≡ true → (n : ℕ) → n ≡ u16 s 10 → CheckMeets s (verdict_number (Ok n)) (verdict_paths (Ok n)) × (verdict_paths (Ok n) ≤ most_nodes)
+      unfolding verdict_number verdict_paths check_no check_at first_no
+      counted b-yes n n-is =
+          let whole : whole_nodes (length s) ≡ true = sym a-is ∙ a-yes in
+          let is_sound : sound s ≡ true = sym b-is ∙ b-yes in
+          let no : check_no s ≡ 0 = rw (whole, is_sound) refl in
+          let count : n ≡ length (table_of s) = count-is s n is_sound n-is in
+          (record { answer = sym no; beside = rw no count }, omega (arith, count-few s whole is_sound))

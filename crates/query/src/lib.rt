@@ -131,6 +131,12 @@ pub fn check(store: &[u8]) -> Result<usize, Refusal>
     ensures check_meets { CheckMeets store.now (verdict_number result) (verdict_paths result) }
     ensures few { verdict_paths result ≤ most_nodes }
 {
-    judge_store(store)?;
-    Ok(node::header::read_live(store))
+    if !node::whole_nodes(store.len()) {
+        return Err(Refusal::Length);
+    }
+    if !soundness::is_sound(store) {
+        return Err(Refusal::Unsound); // no image to count in
+    }
+    let live = node::header::read_live(store);
+    Ok(live)
 }

@@ -109,6 +109,7 @@ impl<'a> Iterator for Pieces<'a> {
 
     ghost remaining = { item_count requests_left };
 
+    #[inline(always)] // measured: gets of nothing take a fifth less; with read_piece too they take it again
     fn next(&mut self) -> Option<Piece<'a>> {
         let (piece, behind) = read_piece(self.rest)?;
         self.rest = behind;
@@ -128,7 +129,7 @@ pub fn most_bytes(query: Query) -> usize
 }
 
 // The number of an outcome: 0, or that of the refusal.
-#[tactic(auto, unfolding(image::specs::Answers::outcome_number))]
+#[tactic(auto, unfolding(image::specs::Answers::outcome_number, image::specs::Answers::refusal_number))]
 pub fn outcome_number(outcome: Result<(), Refusal>) -> u32
     ensures { (result ≡ outcome_number outcome) × (result ≤ refusal_limit) }
 {

@@ -5,11 +5,11 @@ ghost use Rattle.image.specs.Image.{tree_at, tree_of};
 ghost use Rattle.image.specs.Sound.{sound, highest};
 ghost use Rattle.laws.specs.Reading.Seek.{every, holds};
 ghost use Rattle.laws.specs.Reading.SeekHere.{under, keys_here};
-ghost use Rattle.node.specs.Lent.{left_of};
+ghost use Rattle.node.specs.Lent.{entry_is, left_of, path_is, path_of};
 ghost use Rattle.successor.specs.Walk.{paths_of, NodeReady};
 
 use node::branches::Branches;
-use node::entries::Entries;
+use node::entries::{Entries, Entry, Message};
 use node::path_buffer::PathBuffer;
 
 pub trait Visitor {
@@ -29,12 +29,26 @@ pub trait Visitor {
     ghost both: { (v w x : Self) (a b : List (List ℕ)) → walks v a w → walks w b x → walks v (a ++ b) x };
 }
 
+// The suffix of a pair or of a put: an entry that may hold a value for it.
+#[tactic(auto, unfolding(node::specs::Lent::path_of))]
+pub fn path_of(entry: Entry) -> Option<&[u8]>
+    ensures { path_is result ≡ path_of (entry_is entry.entry) }
+{
+    match entry {
+        Entry::Pair(key, _) => Some(key),
+        Entry::Child(_, _) => None,
+        Entry::Message(Message::Put(key, _)) => Some(key),
+        Entry::Message(Message::Drop(_)) => None,
+        Entry::Message(Message::Clear(_)) => None,
+    }
+}
+
 // The pairs and puts among these entries.
 fn walk_entries<V: Visitor>(visitor: &mut V, entries: Entries, pre: &[u8])
     ensures { V.walks visitor.old (under pre.now (paths_of (left_of entries.entry))) visitor.new }
 {
     for entry in entries {
-        let Some(path) = entry.path() else {
+        let Some(path) = path_of(entry) else {
             continue;
         };
         visitor.visit(pre, path);

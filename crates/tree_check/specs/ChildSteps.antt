@@ -12,6 +12,7 @@ use Rattle.path.specs.Shape.{Shape, feed}
 use Rattle.octets.specs.Beginnings.{take_part}
 use Rattle.laws.specs.Reading.Visit.{onward, visit}
 use Rattle.node.specs.Entries.{list_of}
+use Rattle.node.specs.Lent.{Unread}
 use Rattle.lookup.specs.Look.{part-rest}
 use Rattle.tree_check.specs.Node.Inside.{messages_run, child_run, branches_list, branches_run, branches-step, onward-some, onward-none}
 use Rattle.tree_check.specs.declared.Tally.{Tally}
@@ -112,6 +113,14 @@ module _ (level : ℕ) (s : List ℕ) (sh : Shape) (lo hi : List ℕ) (i : ℕ) 
           one-passed run count marked Y total p v after (child_run (node_run level s) sh lo hi i low q seen)
           (λ a. branches_run (node_run level s) sh lo hi j q (defined.entries_of r) a)
           (count_of (tree_at level s i)) (branches_count (tree_at level s) j (list_of r)) more more-count h t w e j'
+
+  -- there are bytes that no entry begins
+  unread-none : (o : Option (List defined.Entry)) → o ≡ none → branches_run (node_run level s) sh lo hi i low o seen ≡ none
+  unfolding branches_run
+  unread-none o e = rw e
+
+  pub unread-stops : (run : Option (List ℕ)) (count : Count) (total : Tally) → ListLeft run count total → (length b ≡ 0 → ⊥) → Unread b → (z : List ℕ) → Checks run count None z
+  unread-stops run count total p h u z = unsound run count z (p.walk ∙ unread-none (defined.entries_of b) (u.first (omega (arith, h))))
 
   -- no other child follows
   module _ (g : Childless b) where

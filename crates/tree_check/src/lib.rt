@@ -165,7 +165,7 @@ pub fn check_node(
 }
 
 // The children of a node, of which `first` has the node's own low pivot and the others stand in front of its messages, and the messages. (What no
-// child begins is left to the check of the messages, also where it does not read; node's iterator over children has read past it.)
+// child begins is left to the check of the messages, where an entry begins it; node's iterator over children has read past it.)
 #[cycle(check_node_check_children_check_child)]
 pub fn check_children(
     store: &[u8],
@@ -194,6 +194,10 @@ pub fn check_children(
         child = next;
         low = pivot;
         rest = behind;
+    }
+    // Where no entry begins what is left, the node is refused before the walk over its last child, which may be long.
+    if !rest.is_empty() {
+        read_entry(rest)?;
     }
     held = held.joined(check_child(store, child, low, parent.high, parent, seen)?);
     let waiting = check_messages(rest, parent.low, parent.high, parent.shape)?;

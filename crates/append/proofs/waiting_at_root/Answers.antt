@@ -14,7 +14,7 @@ pub read_root-root-requires : goal.read_root-root-requires
 read_root-root-requires c = let l = long c.args.store.now c.requires in omega arith
 
 pub of_node-requires : goal.of_node-requires
-of_node-requires c = root-entries _ c.requires _ _ c.read_levels-levels.ensures.0 c.if-levels-lt2.false c.read_root-root.ensures.0
+of_node-requires c = (root-entries _ c.requires _ _ c.read_levels-levels.ensures.0 c.if-levels-lt2.false c.read_root-root.ensures.0).0
 
 pub returns : goal.returns
 returns c = root-counted _ c.requires _ _ _ _ c.read_levels-levels.ensures.0 c.if-levels-lt2.false c.read_root-root.ensures.0 c.of_node.ensures.lists c.count_messages.ensures

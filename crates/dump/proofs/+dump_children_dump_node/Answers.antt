@@ -49,7 +49,7 @@ pub dump_node-returns-in_default : goal.dump_node-returns-in_default
 dump_node-returns-in_default t c = node-long _ _ _ c.args.above.now c.requires.0 _ _ c.requires.1 _ _ c.requires.2 c.in_default.ensures
 
 pub dump_node-of_node-entries-requires : goal.dump_node-of_node-entries-requires
-dump_node-of_node-entries-requires t c = node-inside c.args.store.now c.args.node.number c.args.level c.requires.0.reads
+dump_node-of_node-entries-requires t c = (node-inside c.args.store.now c.args.node.number c.args.level c.requires.0.reads).0
 
 pub dump_node-append_pairs-requires : goal.dump_node-append_pairs-requires
 dump_node-append_pairs-requires t c = (

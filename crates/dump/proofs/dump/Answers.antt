@@ -15,7 +15,7 @@ pub read_levels-level-requires : goal.read_levels-level-requires
 read_levels-level-requires c = let l = dump-long c.args.store.now c.requires.0 in omega arith
 
 pub of_node-requires : goal.of_node-requires
-of_node-requires c = root-inside c.args.store.now c.requires.0 _ _ c.read_root-number.ensures.0 c.read_levels-level.ensures.0
+of_node-requires c = (root-inside c.args.store.now c.requires.0 _ _ c.read_root-number.ensures.0 c.read_levels-level.ensures.0).0
 
 pub dump_putting-requires : goal.dump_putting-requires
 dump_putting-requires c = (c.read_root-number.ensures.0, c.read_levels-level.ensures.0, c.requires.0, c.requires.1, omega arith, ap only_puts (sym c.of_node.ensures.lists) ∙ sym c.only_puts.ensures ∙ c.if-only_puts.true)

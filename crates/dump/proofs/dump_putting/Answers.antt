@@ -3,7 +3,7 @@ use Rattle.dump.specs.RootPuts.{root-inside, children-ready, children-sound, chi
 use Rattle.dump.proofs.dump_putting.Goals as goal
 
 pub of_node-entries-requires : goal.of_node-entries-requires
-of_node-entries-requires c = root-inside c.args.store.now c.requires.2 c.args.root c.args.level c.requires.0 c.requires.1
+of_node-entries-requires c = (root-inside c.args.store.now c.requires.2 c.args.root c.args.level c.requires.0 c.requires.1).0
 
 pub dump_children-m-requires : goal.dump_children-m-requires
 dump_children-m-requires c = (

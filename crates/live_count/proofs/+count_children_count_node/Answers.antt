@@ -49,7 +49,7 @@ pub count_node-returns-in_default : goal.count_node-returns-in_default
 count_node-returns-in_default t c = (node-long _ _ _ c.args.above.now c.requires.0 _ _ c.in_default.ensures, omega arith)
 
 pub count_node-of_node-entries-requires : goal.count_node-of_node-entries-requires
-count_node-of_node-entries-requires t c = node-inside c.args.store.now c.args.node.number c.args.level c.requires.0.reads
+count_node-of_node-entries-requires t c = (node-inside c.args.store.now c.args.node.number c.args.level c.requires.0.reads).0
 
 pub count_node-count_leaf-requires : goal.count_node-count_leaf-requires
 count_node-count_leaf-requires t c = leaf-told c.args.above.now _ _ _ _ c.in-Some.ensures c.args.store.now c.args.level c.args.node.number c.requires.0.reads c.requires.1 c.of_node-entries.result c.of_node-entries.ensures.lists c.if-level-le1.true

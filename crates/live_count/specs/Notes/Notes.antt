@@ -1,6 +1,7 @@
 -- Notes of messages: what a note says of a key, and what it is to note the messages of a node for a leaf. Definitions only.
-use Rattle.std.specs.Prelude.{ℕ, ◌≡◌, List, [], ◌∷◌, ◌++◌, Bool, true, false, ◌&&◌, not, take, Some, IsSome, unwrap_or}
+use Rattle.std.specs.Prelude.{ℕ, ◌≡◌, List, [], ◌∷◌, ◌++◌, Bool, true, false, ◌&&◌, not, take, get_or, Some, IsSome, unwrap_or}
 use Rattle.std.specs.List.{list_all}
+use Rattle.std.specs.Borrow.{Bor}
 use Rattle.image.specs.Bytes.{same, before, begins}
 use Rattle.image.specs.Path.{owns}
 use Rattle.image.specs.Entry as defined
@@ -21,9 +22,18 @@ note_covers v k = on v.clears v.path.now k
 abbrev pub quiet : List Note → List ℕ → Bool
 quiet vs k = list_all (λ v. not (note_covers v k)) vs
 
+-- the notes of kinds and paths that lie apart
+unfoldable pub paired : List Bool → List (Bor (List ℕ)) → List Note
+paired (c ∷ cs) (p ∷ ps) = record { clears = c; path = p } ∷ paired cs ps
+paired cs ps = []
+
 -- the notes that are kept, where there was room
 abbrev pub kept : Notes → List Note
-kept n = take (unwrap_or n.count 0) n.each
+kept n = take (unwrap_or n.count 0) (paired n.clears n.paths)
+
+-- the note at a place, among all that there is room for
+abbrev pub Stands : Notes → ℕ → Note → Type 0
+Stands n i v = get_or (paired n.clears n.paths) i v ≡ v
 
 abbrev pub silent : Notes → List ℕ → Bool
 silent n k = quiet (kept n) k

@@ -5,7 +5,7 @@ use Rattle.image.specs.Prelude.{arith}
 use Rattle.lookup.proofs.+lookup.Goals as goal
 
 pub of_node-entries-requires : goal.of_node-entries-requires
-of_node-entries-requires t c = node-inside c.args.store.now c.args.num c.args.level c.requires
+of_node-entries-requires t c = (node-inside c.args.store.now c.args.num c.args.level c.requires).0
 
 pub returns-then-level-le1 : goal.returns-then-level-le1
 returns-then-level-le1 t c = look-leaf _ _ _ c.requires _ _ _ c.of_node-entries.ensures.lists (omega arith) _ c.find.ensures
@@ -19,10 +19,14 @@ returns-in_err-owner t c =
     (look-nobody _ _ _ c.requires _ _ _ c.of_node-entries.ensures.lists (omega arith) _ _ c.among.ensures.pending c.among.ensures.high _ c.in_err-owner.ensures c.in_default.ensures refl)
 
 pub slice_bounds-lookup-count-2 : goal.slice_bounds-lookup-count-2
-slice_bounds-lookup-count-2 t c = owner-short _ _ _ c.requires _ _ _ c.of_node-entries.ensures.lists (omega arith) _ _ c.among.ensures.pending c.among.ensures.high _ c.in_ok-owner.ensures _ refl _ c.common_length-k.ensures.0
+slice_bounds-lookup-count-2 t c =
+    let s = owner-short _ _ _ c.requires _ _ _ c.of_node-entries.ensures.lists (omega arith) _ _ c.among.ensures.pending c.among.ensures.high _ c.in_ok-owner.ensures _ refl _ c.common_length-k.ensures.0 in
+    omega arith
 
 pub slice_bounds-lookup-start-2 : goal.slice_bounds-lookup-start-2
-slice_bounds-lookup-start-2 t c = owner-short _ _ _ c.requires _ _ _ c.of_node-entries.ensures.lists (omega arith) _ _ c.among.ensures.pending c.among.ensures.high _ c.in_ok-owner.ensures _ refl _ c.common_length-k.ensures.0
+slice_bounds-lookup-start-2 t c =
+    let s = owner-short _ _ _ c.requires _ _ _ c.of_node-entries.ensures.lists (omega arith) _ _ c.among.ensures.pending c.among.ensures.high _ c.in_ok-owner.ensures _ refl _ c.common_length-k.ensures.0 in
+    omega arith
 
 pub lookup-requires : goal.lookup-requires
 lookup-requires t c = (omega arith, owner-usable _ _ _ c.requires _ _ _ c.of_node-entries.ensures.lists (omega arith) _ _ c.among.ensures.pending c.among.ensures.high _ c.in_ok-owner.ensures _ refl)

@@ -15,11 +15,7 @@ pub copy_node-node-requires : goal.copy_node-node-requires
 copy_node-node-requires c = node-inside _ _ _ c.requires
 
 pub of_node-entries-requires : goal.of_node-entries-requires
-of_node-entries-requires c =
-    let z = copy-size _ _ (node-inside _ _ _ c.requires) _ c.copy_node-node.ensures in
-    let n = copy-count _ _ (node-inside _ _ _ c.requires) _ c.copy_node-node.ensures in
-    let h = node-short _ _ _ c.requires in
-    (omega arith, omega arith)
+of_node-entries-requires c = let z = copy-size _ _ (node-inside _ _ _ c.requires) _ c.copy_node-node.ensures in omega arith
 
 pub join_first-requires : goal.join_first-requires
 join_first-requires c = (

@@ -14,10 +14,10 @@ pub read_level-level-requires : goal.read_level-level-requires
 read_level-level-requires c = let i = (both-join _ _ _ _ _ _ c.requires).left_in in omega arith
 
 pub of_node-requires : goal.of_node-requires
-of_node-requires c = let j = both-join _ _ _ _ _ _ c.requires in (j.left_in, j.left_short)
+of_node-requires c = (both-join _ _ _ _ _ _ c.requires).left_in
 
 pub of_node-requires-2 : goal.of_node-requires-2
-of_node-requires-2 c = let j = both-join _ _ _ _ _ _ c.requires in (j.right_in, j.right_short)
+of_node-requires-2 c = (both-join _ _ _ _ _ _ c.requires).right_in
 
 pub emit_entries-requires : goal.emit_entries-requires
 emit_entries-requires c = (

@@ -14,11 +14,7 @@ pub copy_node-node-requires : goal.copy_node-node-requires
 copy_node-node-requires c = node_in _ _ _ c.requires
 
 pub of_node-entries-requires : goal.of_node-entries-requires
-of_node-entries-requires c =
-    let z = copy-size _ _ (node_in _ _ _ c.requires) _ c.copy_node-node.ensures in
-    let n = copy-count _ _ (node_in _ _ _ c.requires) _ c.copy_node-node.ensures in
-    let h = node-short _ _ _ c.requires in
-    (omega arith, omega arith)
+of_node-entries-requires c = let z = copy-size _ _ (node_in _ _ _ c.requires) _ c.copy_node-node.ensures in omega arith
 
 pub returns-then-not-has_messages : goal.returns-then-not-has_messages
 returns-then-not-has_messages c =

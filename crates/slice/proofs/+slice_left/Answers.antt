@@ -23,7 +23,7 @@ pub copy_node-node-requires : goal.copy_node-node-requires
 copy_node-node-requires t c = left-inside _ _ _ _ _ _ _ _ c.requires
 
 pub of_node-entries-requires : goal.of_node-entries-requires
-of_node-entries-requires t c = copy-entries _ _ _ c.requires.reads _ c.copy_node-node.ensures
+of_node-entries-requires t c = (copy-entries _ _ _ c.requires.reads _ c.copy_node-node.ensures).0
 
 pub bounds-free-at : goal.bounds-free-at
 bounds-free-at t c = let e = c.requires.enough in let l = left-level _ _ _ _ _ _ _ _ c.requires in omega arith

@@ -1,8 +1,9 @@
 -- The cycle of the check: a node, the list of children in it with the messages behind, and one child, which is a node again. The measure: the level
 -- first; then 2 for the list, 1 for a child, 0 for a node. Relies on the exits in specs (NodeSteps, ChildSteps) and on Sequence.
 use Rattle.std.specs.Prelude.{length}
+use Rattle.std.proofs.Common.{rules}
 use Rattle.tree_check.specs.NodeSteps.{number-low, number_past, reached-before, level-zero, node-leaf, no-first, branches-found, list-begins}
-use Rattle.tree_check.specs.ChildSteps.{child-out, child-flat, child-walk, child-stops, child-passed, last-stops, last-passed}
+use Rattle.tree_check.specs.ChildSteps.{child-out, child-flat, child-walk, child-stops, child-passed, unread-stops, last-stops, last-passed}
 use Rattle.tree_check.specs.Sequence.{rest-stops, rest-done}
 use Rattle.laws.specs.WriteNode.{in-store}
 use Rattle.image.specs.Prelude.{arith}
@@ -59,6 +60,9 @@ check_children-returns-in_err-check_child t c = rw c.from_residual.ensures (chil
 
 pub check_children-loop-next-preserved : goal.check_children-loop-next-preserved
 check_children-loop-next-preserved t c = child-passed c.args.parent.level c.args.store.now (shape_is c.args.parent.shape) c.args.parent.low.now c.args.parent.high.now c.loop-next.child c.loop-next.low.now c.loop-next.rest.now c.loop-next.seen _ _ _ c.in-Some.ensures _ _ c.loop-next.held c.loop-next.invariant _ _ c.check_child.ensures _ _ c.in_ok-check_child.was c.joined-held.ensures
+
+pub check_children-returns-in_err-read_entry : goal.check_children-returns-in_err-read_entry
+check_children-returns-in_err-read_entry t c = rw c.from_residual-in_err-read_entry.ensures (unread-stops c.args.parent.level c.args.store.now (shape_is c.args.parent.shape) c.args.parent.low.now c.args.parent.high.now c.loop-next.child c.loop-next.low.now c.loop-next.rest.now c.loop-next.seen _ _ c.loop-next.held c.loop-next.invariant (search rules) c.in_err-read_entry.ensures _)
 
 pub check_children-returns-in_err-check_child-2 : goal.check_children-returns-in_err-check_child-2
 check_children-returns-in_err-check_child-2 t c = rw c.from_residual-in_err-check_child-2.ensures (last-stops c.args.parent.level c.args.store.now (shape_is c.args.parent.shape) c.args.parent.low.now c.args.parent.high.now c.loop-next.child c.loop-next.low.now c.loop-next.rest.now c.loop-next.seen c.in_default.ensures _ _ c.loop-next.held c.loop-next.invariant _ _ c.check_child-2.ensures c.in_err-check_child-2.was _)

@@ -9,7 +9,7 @@ pub returns-then-not-laid_out : goal.returns-then-not-laid_out
 returns-then-not-laid_out c = not-laid c.args.store.now c.args.num c.args.level c.args.lo.now c.requires _ c.laid_out.ensures c.if-not-laid_out.true
 
 pub of_node-entries-requires : goal.of_node-entries-requires
-of_node-entries-requires c = laid-entries _ _ 2 c.args.level c.requires (sym c.laid_out.ensures ∙ c.if-not-laid_out.false)
+of_node-entries-requires c = (laid-entries _ _ 2 c.args.level c.requires (sym c.laid_out.ensures ∙ c.if-not-laid_out.false)).0
 
 pub returns-in_err-child : goal.returns-in_err-child
 returns-in_err-child c = rw c.from_residual.ensures (no-child c.args.store.now c.args.num c.args.level c.args.lo.now c.requires _ c.laid_out.ensures c.if-not-laid_out.false _ c.of_node-entries.ensures.bytes c.in_err-child.ensures)

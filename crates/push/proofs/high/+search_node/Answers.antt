@@ -15,7 +15,7 @@ pub returns-then-top-num : goal.returns-then-top-num
 returns-then-top-num t c = node-found _ _ _ _ c.requires (omega arith) _ _ _ c.common_length.ensures.0 (omega arith) _ refl
 
 pub of_node-entries-requires : goal.of_node-entries-requires
-of_node-entries-requires t c = node-inside _ _ _ c.requires
+of_node-entries-requires t c = (node-inside _ _ _ c.requires).0
 
 pub loop-child-init : goal.loop-child-init
 loop-child-init t c =

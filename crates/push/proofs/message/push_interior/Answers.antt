@@ -14,7 +14,7 @@ pub read_level-level-requires : goal.read_level-level-requires
 read_level-level-requires c = let i = room-inside _ _ _ _ _ c.requires in omega arith
 
 pub of_node-requires : goal.of_node-requires
-of_node-requires c = let f = room_fits _ _ _ _ _ c.requires in (room-inside _ _ _ _ _ c.requires, omega arith)
+of_node-requires c = room-inside _ _ _ _ _ c.requires
 
 pub copy-requires : goal.copy-requires
 copy-requires c =

@@ -25,7 +25,7 @@ pub copy_node-node-requires : goal.copy_node-node-requires
 copy_node-node-requires t c = right-inside _ _ _ _ _ _ _ _ _ c.requires.0
 
 pub of_node-entries-requires : goal.of_node-entries-requires
-of_node-entries-requires t c = copy-entries _ _ _ c.requires.0.reads _ c.copy_node-node.ensures
+of_node-entries-requires t c = (copy-entries _ _ _ c.requires.0.reads _ c.copy_node-node.ensures).0
 
 pub bounds-free-at : goal.bounds-free-at
 bounds-free-at t c = let e = c.requires.0.enough in let l = right-level _ _ _ _ _ _ _ _ _ c.requires.0 in omega arith

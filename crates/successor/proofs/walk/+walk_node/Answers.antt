@@ -9,7 +9,7 @@ use Rattle.successor.specs.InHand.{in-hand, later-ready, later-ends, run-more}
 use Rattle.successor.proofs.walk.+walk_node.Goals as goal
 
 pub of_node-entries-requires : goal.of_node-entries-requires
-of_node-entries-requires g t c = node-inside c.args.store.now c.args.num c.args.level c.requires.usable
+of_node-entries-requires g t c = (node-inside c.args.store.now c.args.num c.args.level c.requires.usable).0
 
 pub returns-then-level-le1 : goal.returns-then-level-le1
 returns-then-level-le1 g t c = rw (leaf-is c.args.store.now c.args.pre.now c.args.hi.now c.args.level c.args.num c.requires _ c.of_node-entries.ensures.lists (omega arith)) at c.walk_entries.ensures

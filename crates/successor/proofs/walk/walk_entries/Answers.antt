@@ -16,7 +16,7 @@ loop-entry-preserved-in_default g c =
 pub loop-entry-preserved : goal.loop-entry-preserved
 unfolding under
 loop-entry-preserved g c =
-    visited-more g.V.Visitor.walks g.met.V.Visitor.both _ _ _ _ _ _ _ (entries-more c.args.pre.now _ _ _ (c.in-Some-path.path.now ∷ []) c.in-Some.ensures.steps c.in-Some-path.ensures) c.loop-entry.invariant c.visit.ensures
+    visited-more g.V.Visitor.walks g.met.V.Visitor.both _ _ _ _ _ _ _ (entries-more c.args.pre.now _ _ _ (c.in-Some-path_of.path.now ∷ []) c.in-Some.ensures.steps c.in-Some-path_of.ensures) c.loop-entry.invariant c.visit.ensures
 
 pub returns : goal.returns
 returns g c =

@@ -13,7 +13,7 @@ pub returns-then-level-le1 : goal.returns-then-level-le1
 returns-then-level-le1 t c = leaf-marked _ _ _ c.requires.1 _ (omega arith)
 
 pub of_node-entry-items-requires : goal.of_node-entry-items-requires
-of_node-entry-items-requires t c = node-inside c.args.store.now c.args.num c.args.level c.requires.1
+of_node-entry-items-requires t c = (node-inside c.args.store.now c.args.num c.args.level c.requires.1).0
 
 pub loop-entry-init : goal.loop-entry-init
 loop-entry-init t c = rw c.into_iter-entry-iterator.ensures.into_iter_gives (left-start c.args.store.now c.args.level c.args.num c.requires.1 _ (omega arith) _ c.of_node-entry-items.ensures.lists)

@@ -25,10 +25,11 @@ pub struct Batched {
 }
 
 // The call of a request that changes the store or keeps it up. The marks of the judgement are stale after the first change: move, settle, flush and heal
-// mark the nodes anew, and put, drop and clear are lent none, as edit makes its own where it needs some.
+// mark the nodes anew, in the room that is lent, and put, drop and clear are lent none, as edit makes its own where it needs some.
 fn make_change(
     store: &mut [u8],
     work: &mut [u8],
+    seen: &mut [u8; 1024],
     change: Change,
     waiting: usize,
 ) -> Result<(), Refusal>
@@ -44,25 +45,21 @@ fn make_change(
         Change::Drop(path) => edit::drop_fit(store, work, path, terms),
         Change::Clear(path) => edit::clear_fit(store, work, path, terms),
         Change::Move(from, to) => {
-            let mut seen = [0u8; 1024];
-            let quiet = marks::mark_nodes(store, &mut seen);
-            rename::move_fit(store, work, quiet, &seen, from, to)
+            let quiet = marks::mark_nodes(store, seen);
+            rename::move_fit(store, work, quiet, seen, from, to)
         }
         Change::Settle => {
-            let mut seen = [0u8; 1024];
-            let quiet = marks::mark_nodes(store, &mut seen);
+            let quiet = marks::mark_nodes(store, seen);
             maintain::settle_fit(store, work, quiet)
         }
         Change::Tidy => maintain::tidy_fit(store, work),
         Change::Flush(node) => {
-            let mut seen = [0u8; 1024];
-            marks::mark_nodes(store, &mut seen);
-            maintain::flush_fit(store, work, &seen, node)
+            marks::mark_nodes(store, seen);
+            maintain::flush_fit(store, work, seen, node)
         }
         Change::Heal(node) => {
-            let mut seen = [0u8; 1024];
-            marks::mark_nodes(store, &mut seen);
-            maintain::heal_fit(store, work, &seen, node)
+            marks::mark_nodes(store, seen);
+            maintain::heal_fit(store, work, seen, node)
         }
     }
 }
@@ -108,6 +105,7 @@ fn waiting_of(change: Change, later: Pieces, nodes: usize) -> usize {
 fn take_turn(
     store: &mut [u8],
     work: &mut [u8],
+    seen: &mut [u8; 1024],
     pieces: &mut Pieces,
     answers: &mut [u8],
     written: usize,
@@ -123,7 +121,7 @@ fn take_turn(
                 return None;
             }
             let waiting = waiting_of(change, *pieces, store.len() / image::NODE_SIZE);
-            let outcome = make_change(store, work, change, waiting);
+            let outcome = make_change(store, work, seen, change, waiting);
             Some(requests::write_outcome(answers, written, outcome))
         }
         Piece::Query(query) => {
@@ -135,15 +133,21 @@ fn take_turn(
     }
 }
 
-// Turn after turn, on a store and a work area that are fit.
-fn run(store: &mut [u8], work: &mut [u8], calls: &[u8], answers: &mut [u8]) -> Batched
+// Turn after turn, on a store and a work area that are fit; `seen` is room for marks.
+fn run(
+    store: &mut [u8],
+    work: &mut [u8],
+    seen: &mut [u8; 1024],
+    calls: &[u8],
+    answers: &mut [u8],
+) -> Batched
     requires { Fresh store.old work.old }
     ensures { Batching store.old work.old calls.now answers.old result store.new work.new answers.new }
 {
     let mut pieces = Pieces { rest: calls };
     let mut done = 0;
     let mut written = 0;
-    while let Some(behind) = take_turn(store, work, &mut pieces, answers, written) {
+    while let Some(behind) = take_turn(store, work, seen, &mut pieces, answers, written) {
         written = behind;
         done += 1;
     }
@@ -168,7 +172,7 @@ pub fn batch(store: &mut [u8], work: &mut [u8], calls: &[u8], answers: &mut [u8]
         },
         Ok(_) => {
             questions::zero_area(work, store.len() / image::NODE_SIZE);
-            run(store, work, calls, answers)
+            run(store, work, &mut seen, calls, answers)
         }
     }
 }

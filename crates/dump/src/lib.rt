@@ -19,7 +19,7 @@ ghost use Rattle.node.specs.Lent.{left_of};
 ghost use Rattle.node.specs.Spans.{pending_of};
 ghost use Rattle.lookup.specs.Look.{listing};
 ghost use Rattle.packed.specs.Rows.Area.{rows_of};
-ghost use Rattle.live_count.specs.Noted.{Tells, LeafTold, KeyTold, SoundNode, SoundBranches};
+ghost use Rattle.live_count.specs.Noted.{AtRoot, Tells, LeafTold, KeyTold, SoundNode, SoundBranches};
 ghost use Rattle.live_count.specs.Walk.{passing, LiftsWithin, Ready, ReadyBranches};
 ghost use Rattle.dump.specs.Replacing.{only_puts};
 ghost use Rattle.dump.specs.Dump.{row_under, pairs_among, values_fit_among, insert_among, Room, Added, Open, Placed, Dumped};
@@ -171,10 +171,7 @@ fn dump_children<'a>(
         (rows_in (forest_of (λ j. tree_at level store.now j) (pending_of children.entry)) here.now.prefix
         (here.now.prefix ++ children.entry.high.now))) }
 {
-    let mut below = Position::new();
-    // Named for the borrow checker, which takes a Position apart.
-    let _trail = &below.trail;
-    let _notes = &below.notes;
+    let mut below = here.empty_like();
     let mut m = first;
     for child in children {
         m = dump_node(store, area, m, level, child, here, &mut below);
@@ -184,27 +181,30 @@ fn dump_children<'a>(
 
 // The rows of the whole map, where the root's messages are all puts: its children's rows, and its puts put into them, oldest first. So no
 // message of the root is held against the pairs below it, nor against the later ones.
-fn dump_putting(store: &[u8], area: &mut [u8], level: usize, root: usize) -> usize
+fn dump_putting<'a>(
+    store: &'a [u8],
+    area: &mut [u8],
+    level: usize,
+    root: usize,
+    above: &Position<'a>,
+) -> usize
     requires { (root ≡ u16 store.now 6)
         × (level ≡ u16 store.now 8)
         × (sound store.now ≡ true)
         × (128 * nodes_of (length store.now) ≤ length area.old)
         × (2 ≤ level)
-        × (only_puts (listing store.now root) ≡ true) }
+        × (only_puts (listing store.now root) ≡ true)
+        × AtRoot above.now }
     ensures { Dumped store.now area.old area.new result }
 {
     let entries = Entries::of_node(store, root);
-    let above = Position::new();
-    // Named for the borrow checker, which takes a Position apart.
-    let _trail = &above.trail;
-    let _notes = &above.notes;
     let m = dump_children(
         store,
         area,
         0,
         level - 1,
         Branches::among(entries, &[255]),
-        &above,
+        above,
     );
     let all = replacing::set_puts(area, m, entries);
     insertion::merge_rows(area, 0, m, all);
@@ -218,9 +218,13 @@ pub fn dump(store: &[u8], area: &mut [u8]) -> usize
 {
     let number = node::header::read_root(store);
     let level = node::header::read_levels(store);
+    let above = Position::new();
+    // Named for the borrow checker, which takes a Position apart.
+    let _trail = &above.trail;
+    let _notes = &above.notes;
     if 1 < level {
         if replacing::only_puts(Entries::of_node(store, number)) {
-            return dump_putting(store, area, level, number);
+            return dump_putting(store, area, level, number, &above);
         }
     }
     let root = Branch {
@@ -228,10 +232,6 @@ pub fn dump(store: &[u8], area: &mut [u8]) -> usize
         low: &[],
         high: &[255],
     };
-    let above = Position::new();
-    // Named for the borrow checker, which takes a Position apart.
-    let _trail = &above.trail;
-    let _notes = &above.notes;
-    let mut here = Position::new();
+    let mut here = above.empty_like();
     dump_node(store, area, 0, level, root, &above, &mut here)
 }

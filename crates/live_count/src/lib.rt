@@ -109,10 +109,7 @@ pub fn count_children<'a>(
         (passing here.now.trail) here.now.prefix children.entry.high.now))
         × (result ≤ 65535) }
 {
-    let mut below = Position::new();
-    // Named for the borrow checker, which takes a Position apart.
-    let _trail = &below.trail;
-    let _notes = &below.notes;
+    let mut below = here.empty_like();
     let mut total = 0;
     for child in children {
         let count = count_node(store, level, child, here, &mut below);
@@ -136,6 +133,6 @@ pub fn count_paths(store: &[u8]) -> usize
     // Named for the borrow checker, which takes a Position apart.
     let _trail = &above.trail;
     let _notes = &above.notes;
-    let mut here = Position::new();
+    let mut here = above.empty_like();
     count_node(store, levels, root, &above, &mut here)
 }

@@ -53,6 +53,14 @@ impl<'a> Note<'a> {
         octets::equal(path, &key[..size])
     }
 
+    // Whether it is seen to be on all keys: what clears their common beginning.
+    #[inline(always)]
+    fn covers_all(&self) -> bool
+        ensures { result ≡ true → (k : List ℕ) → note_covers self.now k ≡ true }
+    {
+        self.clears && self.path.is_empty()
+    }
+
     // Whether both are seen to be on the same keys.
     fn is_like(&self, other: Note<'a>) -> bool
         ensures { result ≡ true → (k : List ℕ) → note_covers self.now k ≡ note_covers other.entry k }
@@ -121,7 +129,7 @@ pub struct Notes<'a> {
 }
 
 impl<'a> Notes<'a> {
-    ghost use Rattle.std.specs.Prelude.{◌++◌, ◌<◌, ℕ, List, MatchOption, IsNone, IsSome, not};
+    ghost use Rattle.std.specs.Prelude.{◌++◌, ◌<◌, ℕ, List, MatchOption, IsNone, IsSome, not, true};
     ghost use Rattle.live_count.specs.Notes.Notes.{note_covers, none_covers, silent, Stands, Empty, Gathered};
     ghost use Rattle.node.specs.Lent.{left_of};
 
@@ -155,14 +163,12 @@ impl<'a> Notes<'a> {
         }
     }
 
-    // Whether no note is on a key; none where they tell nothing. The newest is asked first: it is the nearest one's, where a clear hides most.
+    // Whether no note is on a key; none where they tell nothing. The last is asked first: of notes handed down it is the newest one of the nearest node,
+    // where a clear hides most.
     pub fn is_quiet(&self, key: &[u8]) -> Option<bool>
         ensures { MatchOption result (IsNone self.now.count) (λ r. IsSome self.now.count × (r ≡ silent self.now key.now)) }
     {
-        let count = self.count?;
-        let mut i = count;
-        while 0 < i {
-            i -= 1;
+        for i in (0..self.count?).rev() {
             if self.note(i).covers(key) {
                 return Some(false);
             }
@@ -170,7 +176,18 @@ impl<'a> Notes<'a> {
         Some(true)
     }
 
-    // A note behind the others. One that says what the last one does is not kept: a path that is put again and again needs one note.
+    // One note in place of all: it is on all keys.
+    fn keep_alone(&mut self, note: Note<'a>)
+        requires { IsSome self.old.count × ((k : List ℕ) → note_covers note k ≡ true) }
+        ensures { (lo hi : List ℕ) → Gathered lo hi (λ k. not (note_covers note.entry k)) self.old self.new }
+    {
+        self.paths[0] = note.path;
+        self.clears[0] = note.clears;
+        self.count = Some(1);
+    }
+
+    // A note behind the others. One that says what the last one does is not kept: a path that is put again and again needs one note. Nor is any other
+    // where one is on all keys.
     #[inline(always)]
     fn push(&mut self, note: Note<'a>)
         ensures { (lo hi : List ℕ) → Gathered lo hi (λ k. not (note_covers note.entry k)) self.old self.new }
@@ -178,9 +195,13 @@ impl<'a> Notes<'a> {
         let Some(count) = self.count else {
             return;
         };
+        if note.covers_all() {
+            self.keep_alone(note);
+            return;
+        }
         if 0 < count {
             let last = self.note(count - 1);
-            if last.is_like(note) {
+            if last.covers_all() || last.is_like(note) {
                 return;
             }
         }

@@ -9,11 +9,12 @@ use crate::visibility;
 use node::entries::{Entries, Entry};
 use node::path_buffer::PathBuffer;
 
+// No two of its arrays that `empty_like` copies lie side by side: LLVM would keep one copy more of such two on the stack of a 32-bit processor.
 #[derive(Clone, Copy)]
 pub struct Position<'a> {
-    pub prefix: PathBuffer,
     pub trail: Trail<'a>,
     pub notes: Notes<'a>,
+    pub prefix: PathBuffer,
     ghost lifted: { LiftsWithin (length prefix) trail },
 }
 
@@ -29,9 +30,28 @@ impl<'a> Position<'a> {
         ensures { AtRoot result }
     {
         Position {
-            prefix: PathBuffer::new(),
             trail: Trail::new(),
             notes: Notes::new(),
+            prefix: PathBuffer::new(),
+        }
+    }
+
+    // As a new one, but with copies of this one's stages and paths: of what `new` gives, the stack of a 32-bit processor keeps two at each level of a walk.
+    #[inline(always)]
+    pub fn empty_like(&self) -> Position<'a>
+        ensures { AtRoot result }
+    {
+        Position {
+            trail: Trail {
+                stages: self.trail.stages,
+                depth: 0,
+            },
+            notes: Notes {
+                paths: self.notes.paths,
+                count: Some(0),
+                clears: [false; 64],
+            },
+            prefix: PathBuffer::new(),
         }
     }
 
@@ -75,9 +95,7 @@ impl<'a> Position<'a> {
         let notes = &mut self.notes;
         notes.clear();
         let nodes = trail.nodes();
-        let mut depth = nodes.len();
-        while 0 < depth {
-            depth -= 1;
+        for depth in (0..nodes.len()).rev() {
             let stage = nodes[depth];
             let keys = Keys {
                 after: &prefix[stage.lift..],

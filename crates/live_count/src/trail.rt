@@ -61,9 +61,7 @@ impl<'a> Trail<'a> {
         ensures { result ≡ passing self.now path.now }
     {
         let nodes = self.nodes();
-        let mut depth = nodes.len();
-        while 0 < depth {
-            depth -= 1;
+        for depth in (0..nodes.len()).rev() {
             let stage = nodes[depth];
             if !visibility::none_covers(stage.entries, &path[stage.lift..]) {
                 return false;

@@ -114,7 +114,8 @@ fn mend_once(store: &mut [u8], num: usize, high: &[u8]) -> bool
 {
     let level = node::header::read_level(store, num * image::NODE_SIZE);
     // The entries are read while the store is written, from a copy of the node.
-    let node = push::copy_node(store, num);
+    let mut node = [0; 1024];
+    push::copy_node(store, num, &mut node);
     let entries = Entries::of_node(&node, 0);
     let parent = Parent {
         num,

@@ -66,6 +66,7 @@ pub record Unread (s : List ℕ) : Type 0 where
 pub record Leads (s : List ℕ) (e : Entry) (r : List ℕ) : Type 0 where
   pub first : defined.entries_of s ≡ defined.entry_then (some (entry_is e)) (defined.entries_of r)
   pub lists : list_of s ≡ entry_is e ∷ list_of r
+  pub later : drop (u16 s 0) (drop 4 s) ≡ r
   pub shorter : length r + 4 ≤ length s
 
 -- a number in front of bytes, read from the part that holds it
@@ -202,7 +203,7 @@ module _ (s front rest : List ℕ) (four : 4 ≤ length s) (f : front ≡ take 4
         let l = rest-length in
         let m = length-drop n rest in
         let z = ap length q in
-        record { first = read-here ∙ ap (λ y. defined.entry_then y (defined.entries_of behind)) o; lists = list-here ∙ cons-some _ _ _ o; shorter = omega arith }
+        record { first = read-here ∙ ap (λ y. defined.entry_then y (defined.entries_of behind)) o; lists = list-here ∙ cons-some _ _ _ o; later = behind-here; shorter = omega arith }
 
 -- a child's number is one of two bytes
 abbrev pub Small : defined.Entry → Type 0

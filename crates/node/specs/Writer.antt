@@ -1,10 +1,10 @@
 -- Step lemmas of the writer: writes one after the other are one entry, and a page with its first bytes is one put into the store.
--- Relies on octets' `put-put`; the bytes of an entry are laws' Encode.
-use Rattle.std.specs.Prelude.{ℕ, suc, ◌+◌, ◌*◌, ◌<◌, ◌≤◌, ◌≡◌, refl, List, ◌++◌, length}
-use Rattle.image.specs.Prelude.{ap, ap₂, subst, ◌∙◌, append_assoc, arith, length-append}
+-- Relies on octets' Put; the bytes of an entry are laws' Encode.
+use Rattle.std.specs.Prelude.{ℕ, suc, ◌+◌, ◌*◌, ◌<◌, ◌≤◌, ◌≡◌, refl, List, ◌++◌, length, take, drop}
+use Rattle.image.specs.Prelude.{sym, ap, ap₂, subst, ◌∙◌, append_assoc, arith, length-append, length-take-le, take-add, take_at, drop_at, take-append-le, drop-append-le, drop-append-add}
 use Rattle.image.specs.Bytes.{u16_bytes}
 use Rattle.image.specs.Entry.{pair, child, message}
-use Rattle.octets.specs.Put.{put, put-put}
+use Rattle.octets.specs.Put.{put, put-put, put-size}
 use Rattle.std.specs.Borrow.{Bor}
 use Rattle.laws.specs.Encode.{rest_of, kind_of, bytes_of, keyed_entry, short_entry, head_bytes, pair_size, child-size, pair-entry, put-entry, drop-entry, clear-entry, keyed-length, short-length}
 use Rattle.node.specs.Lent.{entry_is, message_is, Small}
@@ -103,10 +103,57 @@ longer-child-put p p₁ p₂ p₃ more key at i h a b c =
     ∙ ap (put p at) (child-bytes i more key)
 
 -- A PAGE WITH ITS FIRST BYTES
-pub page-put : (page p₁ p₂ p₃ store store' : List ℕ) (num kind level size : ℕ) → p₁ ≡ put page 0 (u16_bytes size) → p₂ ≡ put p₁ 2 (u16_bytes kind) → p₃ ≡ put p₂ 4 (u16_bytes level)
-    → store' ≡ put store (num * 1024) p₃ → store' ≡ put store (num * 1024) (put (put (put page 0 (u16_bytes size)) 2 (u16_bytes kind)) 4 (u16_bytes level))
-page-put page p₁ p₂ p₃ store store' num kind level size a b c d =
-    d ∙ ap (put store (num * 1024)) (c ∙ ap (λ x. put x 4 (u16_bytes level)) (b ∙ ap (λ x. put x 2 (u16_bytes kind)) a))
+-- what is put within a page that was put is put into the page
+put-within : (store page bs : List ℕ) (at i : ℕ) → at + length page ≤ length store → i + length bs ≤ length page → put (put store at page) (at + i) bs ≡ put store at (put page i bs)
+unfolding put
+put-within store page bs at i room within =
+    let s = put-size page i bs within in
+    let z : at + length page ≡ at + length (put page i bs) = omega arith in
+    ap₂ (λ x y. x ++ (bs ++ y)) front back
+    ∙ append_assoc before (take i page) (bs ++ (drop (i + length bs) page ++ behind))
+    ∙ ap (λ x. before ++ x) whole
+    ∙ ap (λ n. before ++ (put page i bs ++ drop n store)) z
+  where
+    before : List ℕ
+    before = take at store
+
+    behind : List ℕ
+    behind = drop (at + length page) store
+
+    before-length : length before ≡ at
+    before-length = length-take-le at store (omega arith)
+
+    front : take (at + i) (before ++ (page ++ behind)) ≡ before ++ take i page
+    front = take-add at i (before ++ (page ++ behind))
+        ∙ ap₂ (λ x y. x ++ take i y) (take_at before (page ++ behind) at before-length) (drop_at before (page ++ behind) at before-length)
+        ∙ ap (λ x. before ++ x) (take-append-le i page behind (omega arith))
+
+    back : drop (at + i + length bs) (before ++ (page ++ behind)) ≡ drop (i + length bs) page ++ behind
+    back =
+        let l = before-length in
+        let z : at + i + length bs ≡ length before + (i + length bs) = omega arith in
+        ap (λ n. drop n (before ++ (page ++ behind))) z
+        ∙ drop-append-add before (page ++ behind) (i + length bs)
+        ∙ drop-append-le (i + length bs) page behind within
+
+    whole : take i page ++ (bs ++ (drop (i + length bs) page ++ behind)) ≡ put page i bs ++ behind
+    whole = ap (λ x. take i page ++ x) (sym (append_assoc bs (drop (i + length bs) page) behind)) ∙ sym (append_assoc (take i page) (bs ++ drop (i + length bs) page) behind)
+
+-- a page put into a store, and then its first bytes
+pub page-put : (store s₁ s₂ s₃ store' page : List ℕ) (num kind level size : ℕ) → num * 1024 + 1024 ≤ length store → length page ≡ 1024
+    → s₁ ≡ put store (num * 1024) page → s₂ ≡ put s₁ (num * 1024) (u16_bytes size) → s₃ ≡ put s₂ (num * 1024 + 2) (u16_bytes kind)
+    → store' ≡ put s₃ (num * 1024 + 4) (u16_bytes level) → store' ≡ put store (num * 1024) (put (put (put page 0 (u16_bytes size)) 2 (u16_bytes kind)) 4 (u16_bytes level))
+page-put store s₁ s₂ s₃ store' page num kind level size h l a b c d =
+    let at : ℕ = num * 1024 in
+    let P : List ℕ = put page 0 (u16_bytes size) in
+    let Q : List ℕ = put P 2 (u16_bytes kind) in
+    let p = put-size page 0 (u16_bytes size) (omega arith) in
+    let q = put-size P 2 (u16_bytes kind) (omega arith) in
+    let z : at ≡ at + 0 = omega arith in
+    d ∙ ap (λ x. put x (at + 4) (u16_bytes level))
+    (c ∙ ap (λ x. put x (at + 2) (u16_bytes kind)) (b ∙ ap₂ (λ x n. put x n (u16_bytes size)) a z ∙ put-within store page (u16_bytes size) at 0 (omega arith) (omega arith))
+    ∙ put-within store P (u16_bytes kind) at 2 (omega arith) (omega arith))
+    ∙ put-within store Q (u16_bytes level) at 4 (omega arith) (omega arith)
 
 -- AN ENTRY BY ITS KIND, and how many bytes it takes
 pub putting : (m : Message) (k v : Bor (List ℕ)) → m ≡ Message.Put k v → bytes_of (message (message_is m)) ≡ keyed_entry 32 k.now v.now

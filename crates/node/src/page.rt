@@ -86,12 +86,11 @@ impl Page {
     }
 
     // The page as a node of the store, of this kind and level.
-    pub fn write(self, store: &mut [u8], num: usize, kind: usize, level: usize)
+    #[inline(always)] // as write_page
+    pub fn write(&self, store: &mut [u8], num: usize, kind: usize, level: usize)
         requires { (num * 1024 + 1024 ≤ length store.old) × (kind < 65536) × (level < 65536) }
-        ensures { store.new ≡ write_node store.old num (page kind level self) }
+        ensures { store.new ≡ write_node store.old num (page kind level self.now) }
     {
-        let Page { bytes, len } = self;
-        let mut all = bytes;
-        writer::write_page(store, num, &mut all, kind, level, len);
+        writer::write_page(store, num, &self.bytes, kind, level, self.len);
     }
 }

@@ -140,23 +140,18 @@ pub fn write_longer_child(
     at + (6 + n)
 }
 
-// A page with its first bytes, as a node of the store: the size of its entries, its kind and its level.
-pub fn write_page(
-    store: &mut [u8],
-    num: usize,
-    page: &mut [u8],
-    kind: usize,
-    level: usize,
-    size: usize,
-)
-    requires { (num * 1024 + 1024 ≤ length store.old) × (length page.old ≡ 1024) × (kind < 65536) × (level < 65536) × (size < 65536) }
+// A page as a node of the store, with its first bytes: the size of its entries, its kind and its level.
+#[inline(always)] // where LLVM sees that the page is no part of the store, it copies the page at once
+pub fn write_page(store: &mut [u8], num: usize, page: &[u8], kind: usize, level: usize, size: usize)
+    requires { (num * 1024 + 1024 ≤ length store.old) × (length page.now ≡ 1024) × (kind < 65536) × (level < 65536) × (size < 65536) }
     ensures { store.new
-        ≡ put store.old (num * 1024) (put (put (put page.old 0 (u16_bytes size)) 2 (u16_bytes kind)) 4 (u16_bytes level)) }
+        ≡ put store.old (num * 1024) (put (put (put page.now 0 (u16_bytes size)) 2 (u16_bytes kind)) 4 (u16_bytes level)) }
 {
-    octets::put_u16(page, 0, size);
-    octets::put_u16(page, image::KIND_AT, kind);
-    octets::put_u16(page, image::LEVEL_AT, level);
-    octets::copy_at(store, num * image::NODE_SIZE, page);
+    let at = num * image::NODE_SIZE;
+    octets::copy_at(store, at, page);
+    octets::put_u16(store, at, size);
+    octets::put_u16(store, at + image::KIND_AT, kind);
+    octets::put_u16(store, at + image::LEVEL_AT, level);
 }
 
 // A leaf with no pairs.
@@ -164,8 +159,8 @@ pub fn write_empty_leaf(store: &mut [u8], num: usize)
     requires { HasNode store.old num × (length store.old ≤ 2000000) }
     ensures { store.new ≡ write_node store.old num (page 1 1 []) }
 {
-    let mut page = [0u8; 1024];
-    write_page(store, num, &mut page, image::LEAF, 1, 0);
+    let page = [0u8; 1024];
+    write_page(store, num, &page, image::LEAF, 1, 0);
 }
 
 // Node 0 of a store: how many nodes there are, the root, the levels, and how many paths are live.

@@ -66,5 +66,5 @@ pub fn write_node(
     let mut page = [0u8; 1024];
     let k = rows::lifted(area, m, i, j);
     let end = emit_branches(&mut page, area, i, j, k, 8);
-    node::writer::write_page(store, num, &mut page, image::INTERIOR, level, end - 8);
+    node::writer::write_page(store, num, &page, image::INTERIOR, level, end - 8);
 }

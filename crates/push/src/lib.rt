@@ -65,14 +65,12 @@ fn clear_messages(store: &mut [u8], num: usize, children: Branches, level: usize
 }
 
 // A node of the store, copied.
-pub fn copy_node(store: &[u8], num: usize) -> [u8; 1024]
+pub fn copy_node(store: &[u8], num: usize, node: &mut [u8; 1024])
     requires { HasNode store.now num }
-    ensures { result ≡ cut store.now (num * 1024) (num * 1024 + 1024) }
+    ensures { node.new ≡ cut store.now (num * 1024) (num * 1024 + 1024) }
 {
     let at = num * image::NODE_SIZE;
-    let mut node = [0; 1024];
     node.copy_from_slice(&store[at..at + image::NODE_SIZE]);
-    node
 }
 
 // The flush of a node whose high pivot, without what the node lifts, is high. The test that all fits comes before the first write.
@@ -82,7 +80,8 @@ fn push_node(store: &mut [u8], num: usize, high: &[u8]) -> bool
 {
     let level = node::header::read_level(store, num * image::NODE_SIZE);
     // The entries are read while the children are written, from a copy of the node.
-    let node = copy_node(store, num);
+    let mut node = [0; 1024];
+    copy_node(store, num, &mut node);
     let entries = Entries::of_node(&node, 0);
     let children = Branches::among(entries, high);
     if !node::search::has_messages(entries) {

@@ -58,7 +58,8 @@ pub fn slice_left(store: &mut [u8], child: Branch, slot: Slot, k: &[u8], free: &
     let low = &child.low[lifted..];
     let high = &child.high[lifted..];
     let cut = &k[lifted..];
-    let node = push::copy_node(store, child.number);
+    let mut node = [0; 1024];
+    push::copy_node(store, child.number, &mut node);
     let entries = Entries::of_node(&node, 0);
     let new = free[at] as usize;
     let d = octets::common_length(low, cut);

@@ -50,9 +50,9 @@ pub fn emit_parts(page: &mut Page, pieces: Numbered, k: &[u8], out: &[u8], d: us
 }
 
 // A node with the entries of a page, if it has any. Tells whether it does.
-pub fn write_some(page: Page, store: &mut [u8], num: usize, level: usize) -> bool
+pub fn write_some(page: &Page, store: &mut [u8], num: usize, level: usize) -> bool
     requires { HasNode store.old num × (level < 65536) }
-    ensures { (store.new ≡ over_body num level page store.old) × (result ≡ not (eqb (length page) 0)) }
+    ensures { (store.new ≡ over_body num level page.now store.old) × (result ≡ not (eqb (length page.now) 0)) }
 {
     if page.len() == 0 {
         return false;

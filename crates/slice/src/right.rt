@@ -50,8 +50,8 @@ fn write_wide(
     let mut rest = Page::new();
     let e = octets::common_length(pivot, children.high);
     branches::emit_branches(&mut rest, children, e);
-    pieces::write_some(edge, store, free[at] as usize, level);
-    pieces::write_some(rest, store, free[at + 1] as usize, level);
+    pieces::write_some(&edge, store, free[at] as usize, level);
+    pieces::write_some(&rest, store, free[at + 1] as usize, level);
 }
 
 // What is told of both: the pivot of the rest, if there is one, is left in the buffer behind what is lifted.
@@ -100,7 +100,7 @@ fn write_narrow(
     let d = octets::common_length(k, children.high);
     pieces::emit_parts(&mut page, numbered, k, out, d);
     branches::emit_branches(&mut page, children, d);
-    let edge = pieces::write_some(page, store, free[at] as usize, level);
+    let edge = pieces::write_some(&page, store, free[at] as usize, level);
     Parts { edge, rest: None }
 }
 
@@ -122,7 +122,8 @@ pub fn slice_right(
     let lifted = octets::common_length(child.low, child.high);
     let high = &child.high[lifted..];
     let cut = &k[lifted..];
-    let node = push::copy_node(store, child.number);
+    let mut node = [0; 1024];
+    push::copy_node(store, child.number, &mut node);
     let entries = Entries::of_node(&node, 0);
     if level <= 1 {
         let new = free[at] as usize;

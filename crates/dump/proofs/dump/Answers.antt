@@ -18,7 +18,7 @@ pub of_node-requires : goal.of_node-requires
 of_node-requires c = (root-inside c.args.store.now c.requires.0 _ _ c.read_root-number.ensures.0 c.read_levels-level.ensures.0).0
 
 pub dump_putting-requires : goal.dump_putting-requires
-dump_putting-requires c = (c.read_root-number.ensures.0, c.read_levels-level.ensures.0, c.requires.0, c.requires.1, omega arith, ap only_puts (sym c.of_node.ensures.lists) ∙ sym c.only_puts.ensures ∙ c.if-only_puts.true)
+dump_putting-requires c = (c.read_root-number.ensures.0, c.read_levels-level.ensures.0, c.requires.0, c.requires.1, omega arith, ap only_puts (sym c.of_node.ensures.lists) ∙ sym c.only_puts.ensures ∙ c.if-only_puts.true, c.new-above.ensures)
 
 pub dump_node-requires : goal.dump_node-requires
 dump_node-requires c = (

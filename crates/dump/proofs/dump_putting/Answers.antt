@@ -7,13 +7,13 @@ of_node-entries-requires c = (root-inside c.args.store.now c.requires.2 c.args.r
 
 pub dump_children-m-requires : goal.dump_children-m-requires
 dump_children-m-requires c = (
-  children-ready c.args.store.now c.requires.2 c.args.root c.args.level c.requires.0 c.requires.1 c.new-above.result c.new-above.ensures c.requires.4 c.requires.5 c.of_node-entries.result c.of_node-entries.ensures.lists _ c.among.ensures.pending _ c.among.ensures.high,
-  children-room c.args.store.now c.requires.2 c.args.root c.args.level c.requires.0 c.requires.1 c.new-above.result c.new-above.ensures c.requires.4 c.requires.5 c.of_node-entries.result c.of_node-entries.ensures.lists _ c.among.ensures.pending _ c.among.ensures.high _ c.requires.3,
-  children-sound c.args.store.now c.requires.2 c.args.root c.args.level c.requires.0 c.requires.1 c.new-above.result c.new-above.ensures c.requires.4 c.requires.5 c.of_node-entries.result c.of_node-entries.ensures.lists _ c.among.ensures.pending _ c.among.ensures.high,
+  children-ready c.args.store.now c.requires.2 c.args.root c.args.level c.requires.0 c.requires.1 c.args.above.now c.requires.6 c.requires.4 c.requires.5 c.of_node-entries.result c.of_node-entries.ensures.lists _ c.among.ensures.pending _ c.among.ensures.high,
+  children-room c.args.store.now c.requires.2 c.args.root c.args.level c.requires.0 c.requires.1 c.args.above.now c.requires.6 c.requires.4 c.requires.5 c.of_node-entries.result c.of_node-entries.ensures.lists _ c.among.ensures.pending _ c.among.ensures.high _ c.requires.3,
+  children-sound c.args.store.now c.requires.2 c.args.root c.args.level c.requires.0 c.requires.1 c.args.above.now c.requires.6 c.requires.4 c.requires.5 c.of_node-entries.result c.of_node-entries.ensures.lists _ c.among.ensures.pending _ c.among.ensures.high,
 )
 
 pub set_puts-all-requires : goal.set_puts-all-requires
-set_puts-all-requires c = puts-unset c.args.store.now c.requires.2 c.args.root c.args.level c.requires.0 c.requires.1 c.new-above.result c.new-above.ensures c.requires.4 c.requires.5 c.of_node-entries.result c.of_node-entries.ensures.lists _ c.among.ensures.pending _ c.among.ensures.high _ _ c.requires.3 _ c.dump_children-m.ensures
+set_puts-all-requires c = puts-unset c.args.store.now c.requires.2 c.args.root c.args.level c.requires.0 c.requires.1 c.args.above.now c.requires.6 c.requires.4 c.requires.5 c.of_node-entries.result c.of_node-entries.ensures.lists _ c.among.ensures.pending _ c.among.ensures.high _ _ c.requires.3 _ c.dump_children-m.ensures
 
 pub returns : goal.returns
-returns c = puts-dumped c.args.store.now c.requires.2 c.args.root c.args.level c.requires.0 c.requires.1 c.new-above.result c.new-above.ensures c.requires.4 c.requires.5 c.of_node-entries.result c.of_node-entries.ensures.lists _ c.among.ensures.pending _ c.among.ensures.high _ _ c.requires.3 _ c.dump_children-m.ensures _ _ _ c.set_puts-all.ensures c.merge_rows.auto.area c.merge_rows.ensures
+returns c = puts-dumped c.args.store.now c.requires.2 c.args.root c.args.level c.requires.0 c.requires.1 c.args.above.now c.requires.6 c.requires.4 c.requires.5 c.of_node-entries.result c.of_node-entries.ensures.lists _ c.among.ensures.pending _ c.among.ensures.high _ _ c.requires.3 _ c.dump_children-m.ensures _ _ _ c.set_puts-all.ensures c.merge_rows.auto.area c.merge_rows.ensures

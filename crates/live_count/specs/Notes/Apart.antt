@@ -147,6 +147,15 @@ module _ (v : Note) (key : List ℕ) where
   pub clear-covers : (r : Bool) → v.clears ≡ true → length v.path.now ≤ length key → r ≡ same v.path.now (take (length v.path.now) key) → r ≡ note_covers v key
   clear-covers r c l h = h ∙ sym (begins-same v.path.now key (length v.path.now) refl l) ∙ sym (on-clear v.clears v.path.now key c)
 
+-- what clears the beginning with no bytes
+empty-begins : (x k : List ℕ) → length x ≡ 0 → begins x k ≡ true
+unfolding begins
+empty-begins [] k h = refl
+empty-begins (a ∷ x) k h = absurd (omega arith)
+
+pub all-covered : (v : Note) → v.clears ≡ true → length v.path.now ≡ 0 → (k : List ℕ) → note_covers v k ≡ true
+all-covered v c e k = on-clear v.clears v.path.now k c ∙ empty-begins v.path.now k e
+
 -- two notes of one kind on the same bytes
 pub like-told : (u v : Note) → u.clears ≡ v.clears → same u.path.now v.path.now ≡ true → (k : List ℕ) → note_covers u k ≡ note_covers v k
 like-told u v c e k = ap₂ (λ x y. on x y k) c (same-eq u.path.now v.path.now e)
@@ -161,10 +170,6 @@ module _ (y : List ℕ) (c : Bool) (lo : List ℕ) where
       go true e t k u = on-clear c y k e ∙ low-begins y lo k (b t) (n t e) u
       go false e t k u = on-name c y k e ∙ same_false y k (λ z. not_so {A = ⊥} (rw (← z) (b t)) u)
 
-nil-begins : (q : List ℕ) → begins [] q ≡ true
-unfolding begins
-nil-begins q = refl
-
 -- the ways out of narrow
 module _ (n : Note) (w : Keys) (k : ℕ) (e : k ≡ length (shared n.path.now w.after.now)) where
   module _ (m : k < length w.after.now) where
@@ -174,11 +179,7 @@ module _ (n : Note) (w : Keys) (k : ℕ) (e : k ≡ length (shared n.path.now w.
         let l : length (drop k n.path.now) ≡ 0 = sym (ap length p) ∙ z in
         let s = length-drop k n.path.now in
         on-clear n.clears n.path.now (w.after.now ++ q) t ∙ shared-whole n.path.now w.after.now q (omega arith)
-        ∙ sym (on-clear n.clears x q t ∙ ap (λ y. begins y q) (none-left x z) ∙ nil-begins q)
-      where
-        none-left : (x : List ℕ) → length x ≡ 0 → x ≡ []
-        none-left [] h = refl
-        none-left (a ∷ x) h = absurd (omega arith)
+        ∙ sym (on-clear n.clears x q t ∙ empty-begins x q z)
 
     pub apart : (n.clears ≡ true → k < length n.path.now) → Unconcerned n w
     apart h = λ q o. go n.clears refl q

@@ -1,9 +1,9 @@
--- Notes whose kinds and paths lie apart: one at a place, one written behind the others, and all of them from the last to the first.
-use Rattle.std.specs.Prelude.{ℕ, zero, suc, ◌+◌, ◌<◌, ◌≤◌, ◌≡◌, refl, List, [], ◌∷◌, ◌++◌, Bool, true, false, ◌&&◌, not, length, take, drop, set, get_or, Some, unwrap_or, is_some}
+-- Notes whose kinds and paths lie apart: one at a place, one written behind the others or in place of all, and all of them from the last to the first.
+use Rattle.std.specs.Prelude.{ℕ, zero, suc, ◌+◌, ◌<◌, ◌≤◌, ◌≡◌, refl, List, [], ◌∷◌, ◌++◌, Bool, true, false, ◌&&◌, not, length, take, drop, set, get_or, Some, IsSome, unwrap_or, is_some}
 use Rattle.std.specs.List.{list_all}
 use Rattle.std.specs.Borrow.{Bor}
 use Rattle.std.proofs.lemmas.List.Folds.{list_all_more, list_all-append}
-use Rattle.image.specs.Prelude.{sym, ap, ap₂, ◌∙◌, arith, subst, and-true, and-false}
+use Rattle.image.specs.Prelude.{sym, ap, ap₂, ◌∙◌, arith, subst, and-true, and-false, get_or-take}
 use Rattle.live_count.specs.declared.notes.Note.{Note}
 use Rattle.live_count.specs.declared.notes.Notes.{Notes}
 use Rattle.live_count.specs.Notes.Notes.{note_covers, quiet, silent, kept, paired, Gathered}
@@ -47,17 +47,25 @@ all-from p [] i d h = absurd (omega arith)
 all-from p (x ∷ xs) zero d h = refl
 all-from p (x ∷ xs) (suc i) d h = all-from p xs i d (omega arith)
 
-at-taken : {X : Type 0} (xs : List X) (n i : ℕ) (d : X) → i < n → get_or (take n xs) i d ≡ get_or xs i d
-at-taken xs zero i d h = absurd (omega arith)
-at-taken [] (suc n) i d h = refl
-at-taken (x ∷ xs) (suc n) zero d h = refl
-at-taken (x ∷ xs) (suc n) (suc i) d h = at-taken xs n i d (omega arith)
-
 in-taken : {X : Type 0} (xs : List X) (n i : ℕ) → i < n → i < length xs → i < length (take n xs)
 in-taken xs zero i h g = absurd (omega arith)
 in-taken [] (suc n) i h g = absurd (omega arith)
 in-taken (x ∷ xs) (suc n) zero h g = omega arith
 in-taken (x ∷ xs) (suc n) (suc i) h g = let l = in-taken xs n i (omega arith) (omega arith) in omega arith
+
+-- one note in place of all
+module _ (n r : Notes) (v : Note) (all : (k : List ℕ) → note_covers v k ≡ true) (q : r.count ≡ Some 1) (f : r.clears ≡ set n.clears 0 v.clears) (g : r.paths ≡ set n.paths 0 v.path) where
+  pub kept-alone : IsSome n.count → (lo hi : List ℕ) → Gathered lo hi (λ k. not (note_covers v k)) n r
+  kept-alone s lo hi = record { room = λ z. s; tells = λ z k o. told k }
+    where
+      alone : kept r ≡ v ∷ []
+      alone = let m = paired-length n.clears n.paths 64 n.alike n.full in
+          ap (λ x. take (unwrap_or x 0) (paired r.clears r.paths)) q
+          ∙ ap₂ (λ x y. take 1 (paired x y)) f g ∙ ap (λ x. take 1 x) (paired-set n.clears n.paths 0 v)
+          ∙ take-pushed (paired n.clears n.paths) 0 v (omega arith)
+
+      told : (k : List ℕ) → silent r k ≡ silent n k && not (note_covers v k)
+      told k = ap (λ vs. quiet vs k) alone ∙ ap (λ b. not b && true) (all k) ∙ sym (ap (λ b. silent n k && not b) (all k) ∙ and-false (silent n k))
 
 -- notes of which there is a count
 module _ (n : Notes) (c : ℕ) (e : n.count ≡ Some c) where
@@ -74,6 +82,10 @@ module _ (n : Notes) (c : ℕ) (e : n.count ≡ Some c) where
     pub loud : (k : List ℕ) → note_covers v k ≡ true → false ≡ silent n k
     loud k t = let f = few in let m = many in sym (ap (λ vs. quiet vs k) kept-here ∙ not-quiet (paired n.clears n.paths) c i v k h (omega arith) s t)
 
+    -- a note where one that is kept is on all keys
+    pub covered : ((k : List ℕ) → note_covers v k ≡ true) → (w : Note) → (lo hi : List ℕ) → Gathered lo hi (λ k. not (note_covers w k)) n n
+    covered all w lo hi = record { room = λ z. z; tells = λ z k o. let q = loud k (all k) in sym q ∙ ap (λ x. x && not (note_covers w k)) q }
+
     -- a note like one that is kept
     pub repeated : (w : Note) → ((k : List ℕ) → note_covers v k ≡ note_covers w k) → (lo hi : List ℕ) → Gathered lo hi (λ k. not (note_covers w k)) n n
     repeated w like lo hi = record { room = λ z. z; tells = λ z k o. go k (note_covers w k) refl }
@@ -89,7 +101,7 @@ module _ (n : Notes) (c : ℕ) (e : n.count ≡ Some c) where
         let m = many in let w = few in
         gathered-more lo hi (λ k. quiet (take i (kept n)) (after ++ k)) (λ k. not (note_covers v (after ++ k))) (λ k. quiet (take (i + 1) (kept n)) (after ++ k)) first now next f g
         (λ k o. list_all_more (λ x. not (note_covers x (after ++ k))) (kept n) i v (subst (λ vs. i < length vs) (sym kept-here) (in-taken (paired n.clears n.paths) c i h (omega arith)))
-        ∙ ap (λ x. quiet (take i (kept n)) (after ++ k) && not (note_covers x (after ++ k))) (ap (λ vs. get_or vs i v) kept-here ∙ at-taken (paired n.clears n.paths) c i v h ∙ s))
+        ∙ ap (λ x. quiet (take i (kept n)) (after ++ k) && not (note_covers x (after ++ k))) (ap (λ vs. get_or vs i v) kept-here ∙ get_or-take c (paired n.clears n.paths) i v h ∙ s))
 
   -- a note behind the others
   pub noted-behind : (r : Notes) (v : Note) → c < 64 → r.count ≡ Some (c + 1) → r.clears ≡ set n.clears c v.clears → r.paths ≡ set n.paths c v.path

@@ -19,11 +19,11 @@ slice_bounds-cut-count t c = strip-short _ _ _ _ _ _ _ _ c.requires _ c.common_l
 pub slice_bounds-cut-start : goal.slice_bounds-cut-start
 slice_bounds-cut-start t c = let f = strip-short _ _ _ _ _ _ _ _ c.requires _ c.common_length-lifted.ensures.0 in omega arith
 
-pub copy_node-node-requires : goal.copy_node-node-requires
-copy_node-node-requires t c = left-inside _ _ _ _ _ _ _ _ c.requires
+pub copy_node-requires : goal.copy_node-requires
+copy_node-requires t c = left-inside _ _ _ _ _ _ _ _ c.requires
 
 pub of_node-entries-requires : goal.of_node-entries-requires
-of_node-entries-requires t c = (copy-entries _ _ _ c.requires.reads _ c.copy_node-node.ensures).0
+of_node-entries-requires t c = (copy-entries _ _ _ c.requires.reads _ c.copy_node.ensures).0
 
 pub bounds-free-at : goal.bounds-free-at
 bounds-free-at t c = let e = c.requires.enough in let l = left-level _ _ _ _ _ _ _ _ c.requires in omega arith
@@ -32,7 +32,7 @@ pub write_pairs-requires : goal.write_pairs-requires
 write_pairs-requires t c =
     let r = strip-asks _ _ _ _ _ _ _ _ c.requires _ c.common_length-lifted.ensures.0 in
     let b = strip-bare _ _ _ _ _ _ _ _ c.requires _ c.common_length-lifted.ensures.0 in
-    let l = copied _ _ _ c.requires.reads _ c.copy_node-node.ensures _ c.of_node-entries.ensures.lists in (
+    let l = copied _ _ _ c.requires.reads _ c.copy_node.ensures _ c.of_node-entries.ensures.lists in (
       search of_calls,
       left-new _ _ _ _ _ _ _ _ c.requires _ refl,
       (up_to (from c.common_length-lifted.result c.args.k.now), λ k b h. search rules, leaf-fits _ _ _ _ _ _ _ _ r b _ l _ c.common_length-d.ensures.0 (omega arith)),
@@ -42,7 +42,7 @@ pub returns-then-level-le1 : goal.returns-then-level-le1
 returns-then-level-le1 t c =
     let r = strip-asks _ _ _ _ _ _ _ _ c.requires _ c.common_length-lifted.ensures.0 in
     let b = strip-bare _ _ _ _ _ _ _ _ c.requires _ c.common_length-lifted.ensures.0 in
-    let l = copied _ _ _ c.requires.reads _ c.copy_node-node.ensures _ c.of_node-entries.ensures.lists in
+    let l = copied _ _ _ c.requires.reads _ c.copy_node.ensures _ c.of_node-entries.ensures.lists in
     strip-written _ _ _ _ _ _ _ _ c.requires _ c.common_length-lifted.ensures.0 _
     (leaf-written _ _ _ _ _ _ _ _ r b _ l _ c.common_length-d.ensures.0 (omega arith) _ _ refl (c.write_pairs.ensures (up_to (from c.common_length-lifted.result c.args.k.now)) (λ k b h. search rules)))
 
@@ -50,7 +50,7 @@ pub emit_left-held-requires : goal.emit_left-held-requires
 emit_left-held-requires t c =
     let r = strip-asks _ _ _ _ _ _ _ _ c.requires _ c.common_length-lifted.ensures.0 in
     let b = strip-bare _ _ _ _ _ _ _ _ c.requires _ c.common_length-lifted.ensures.0 in
-    let l = copied _ _ _ c.requires.reads _ c.copy_node-node.ensures _ c.of_node-entries.ensures.lists in
+    let l = copied _ _ _ c.requires.reads _ c.copy_node.ensures _ c.of_node-entries.ensures.lists in
     let f = inner-fits _ _ _ _ _ _ _ _ r b _ l _ c.common_length-d.ensures.0 (omega arith) _ c.among-children.ensures.pending _ refl in
     let z = ap length c.new-page.ensures in
     rw c.among-children.ensures.high (omega arith, branches-small _ _ _ _ _ _ _ _ r b _ l _ c.common_length-d.ensures.0 (omega arith) _ c.among-children.ensures.pending, search rules)
@@ -59,7 +59,7 @@ pub slice_left-requires : goal.slice_left-requires
 slice_left-requires t c =
     let r = strip-asks _ _ _ _ _ _ _ _ c.requires _ c.common_length-lifted.ensures.0 in
     let b = strip-bare _ _ _ _ _ _ _ _ c.requires _ c.common_length-lifted.ensures.0 in
-    let l = copied _ _ _ c.requires.reads _ c.copy_node-node.ensures _ c.of_node-entries.ensures.lists in (
+    let l = copied _ _ _ c.requires.reads _ c.copy_node.ensures _ c.of_node-entries.ensures.lists in (
       omega arith,
       held-asks _ _ _ _ _ _ _ (rw c.among-children.ensures.high at c.in-Some.ensures.1)
           (child-asks _ _ _ _ _ _ _ _ r b _ l _ c.common_length-d.ensures.0 (omega arith) _ c.among-children.ensures.pending),
@@ -73,7 +73,7 @@ pub returns : goal.returns
 returns t c =
     let r = strip-asks _ _ _ _ _ _ _ _ c.requires _ c.common_length-lifted.ensures.0 in
     let b = strip-bare _ _ _ _ _ _ _ _ c.requires _ c.common_length-lifted.ensures.0 in
-    let l = copied _ _ _ c.requires.reads _ c.copy_node-node.ensures _ c.of_node-entries.ensures.lists in
+    let l = copied _ _ _ c.requires.reads _ c.copy_node.ensures _ c.of_node-entries.ensures.lists in
     strip-written _ _ _ _ _ _ _ _ c.requires _ c.common_length-lifted.ensures.0 _
     (inner-written _ _ _ _ _ _ _ _ r b _ l _ c.common_length-d.ensures.0 (omega arith) _ c.among-children.ensures.pending _ refl _ _ _ refl
     (elim c.match-held.branch [

@@ -21,11 +21,11 @@ slice_bounds-cut-count t c = strip-short _ _ _ _ _ _ _ _ _ c.requires.0 _ c.comm
 pub slice_bounds-cut-start : goal.slice_bounds-cut-start
 slice_bounds-cut-start t c = let f = strip-short _ _ _ _ _ _ _ _ _ c.requires.0 _ c.common_length-lifted.ensures.0 in omega arith
 
-pub copy_node-node-requires : goal.copy_node-node-requires
-copy_node-node-requires t c = right-inside _ _ _ _ _ _ _ _ _ c.requires.0
+pub copy_node-requires : goal.copy_node-requires
+copy_node-requires t c = right-inside _ _ _ _ _ _ _ _ _ c.requires.0
 
 pub of_node-entries-requires : goal.of_node-entries-requires
-of_node-entries-requires t c = (copy-entries _ _ _ c.requires.0.reads _ c.copy_node-node.ensures).0
+of_node-entries-requires t c = (copy-entries _ _ _ c.requires.0.reads _ c.copy_node.ensures).0
 
 pub bounds-free-at : goal.bounds-free-at
 bounds-free-at t c = let e = c.requires.0.enough in let l = right-level _ _ _ _ _ _ _ _ _ c.requires.0 in omega arith
@@ -33,7 +33,7 @@ bounds-free-at t c = let e = c.requires.0.enough in let l = right-level _ _ _ _ 
 pub write_pairs-requires : goal.write_pairs-requires
 write_pairs-requires t c =
     let r = strip-asks _ _ _ _ _ _ _ _ _ c.requires.0 _ c.common_length-lifted.ensures.0 in
-    let l = copied _ _ _ c.requires.0.reads _ c.copy_node-node.ensures _ c.of_node-entries.ensures.lists in (
+    let l = copied _ _ _ c.requires.0.reads _ c.copy_node.ensures _ c.of_node-entries.ensures.lists in (
       search of_calls,
       right_new _ _ _ _ _ _ _ _ _ c.requires.0 _ refl,
       (since (from c.common_length-lifted.result c.args.k.now), λ k b h. search rules, leaf-fits _ _ _ _ _ _ _ _ _ r (top-bare _) _ l (omega arith) _ c.common_length-d.ensures.0),
@@ -42,14 +42,14 @@ write_pairs-requires t c =
 pub returns-then-level-le1 : goal.returns-then-level-le1
 returns-then-level-le1 t c =
     let r = strip-asks _ _ _ _ _ _ _ _ _ c.requires.0 _ c.common_length-lifted.ensures.0 in
-    let l = copied _ _ _ c.requires.0.reads _ c.copy_node-node.ensures _ c.of_node-entries.ensures.lists in
+    let l = copied _ _ _ c.requires.0.reads _ c.copy_node.ensures _ c.of_node-entries.ensures.lists in
     strip-done _ _ _ _ _ _ _ _ _ c.requires.0 _ c.common_length-lifted.ensures.0 _ _ _
     (leaf-done _ _ _ _ _ _ _ _ _ r (top-bare _) _ l (omega arith) _ c.common_length-d.ensures.0 _ _ _ _ refl (c.write_pairs.ensures (since (from c.common_length-lifted.result c.args.k.now)) (λ k b h. search rules)))
 
 pub slice_right-below-requires : goal.slice_right-below-requires
 slice_right-below-requires t c =
     let r = strip-asks _ _ _ _ _ _ _ _ _ c.requires.0 _ c.common_length-lifted.ensures.0 in
-    let l = copied _ _ _ c.requires.0.reads _ c.copy_node-node.ensures _ c.of_node-entries.ensures.lists in
+    let l = copied _ _ _ c.requires.0.reads _ c.copy_node.ensures _ c.of_node-entries.ensures.lists in
     let q = rw c.among.ensures.high at c.split_children.ensures.1 in
     let a : c.if-wide.inner ≡ after c.args.wide c.args.slot.at =
     elim c.if-wide.branch [
@@ -69,7 +69,7 @@ slice_right-below-requires t c =
 pub write_wide-requires : goal.write_wide-requires
 write_wide-requires t c =
     let r = strip-asks _ _ _ _ _ _ _ _ _ c.requires.0 _ c.common_length-lifted.ensures.0 in
-    let l = copied _ _ _ c.requires.0.reads _ c.copy_node-node.ensures _ c.of_node-entries.ensures.lists in
+    let l = copied _ _ _ c.requires.0.reads _ c.copy_node.ensures _ c.of_node-entries.ensures.lists in
     let q = rw c.among.ensures.high at c.split_children.ensures.1 in
     let a : c.if-wide.inner ≡ after c.args.wide c.args.slot.at =
     elim c.if-wide.branch [
@@ -93,7 +93,7 @@ slice_bounds-tell_both-end t c = sym (length-take-le c.common_length-lifted.resu
 pub tell_both-requires : goal.tell_both-requires
 tell_both-requires t c =
     let r = strip-asks _ _ _ _ _ _ _ _ _ c.requires.0 _ c.common_length-lifted.ensures.0 in
-    let l = copied _ _ _ c.requires.0.reads _ c.copy_node-node.ensures _ c.of_node-entries.ensures.lists in
+    let l = copied _ _ _ c.requires.0.reads _ c.copy_node.ensures _ c.of_node-entries.ensures.lists in
     let q = rw c.among.ensures.high at c.split_children.ensures.1 in
     let j = strip-short _ _ _ _ _ _ _ _ _ c.requires.0 _ c.common_length-lifted.ensures.0 in
     let z = length-take-le c.common_length-lifted.result c.args.k.now j in
@@ -103,7 +103,7 @@ tell_both-requires t c =
 pub returns-then-wide-2 : goal.returns-then-wide-2
 returns-then-wide-2 t c =
     let r = strip-asks _ _ _ _ _ _ _ _ _ c.requires.0 _ c.common_length-lifted.ensures.0 in
-    let l = copied _ _ _ c.requires.0.reads _ c.copy_node-node.ensures _ c.of_node-entries.ensures.lists in
+    let l = copied _ _ _ c.requires.0.reads _ c.copy_node.ensures _ c.of_node-entries.ensures.lists in
     let q = rw c.among.ensures.high at c.split_children.ensures.1 in
     let a : c.if-wide.inner ≡ after c.args.wide c.args.slot.at =
     elim c.if-wide.branch [
@@ -125,7 +125,7 @@ returns-then-wide-2 t c =
 pub write_narrow-requires : goal.write_narrow-requires
 write_narrow-requires t c =
     let r = strip-asks _ _ _ _ _ _ _ _ _ c.requires.0 _ c.common_length-lifted.ensures.0 in
-    let l = copied _ _ _ c.requires.0.reads _ c.copy_node-node.ensures _ c.of_node-entries.ensures.lists in
+    let l = copied _ _ _ c.requires.0.reads _ c.copy_node.ensures _ c.of_node-entries.ensures.lists in
     let q = rw c.among.ensures.high at c.split_children.ensures.1 in
     let a : c.if-wide.inner ≡ after c.args.wide c.args.slot.at =
     elim c.if-wide.branch [
@@ -146,7 +146,7 @@ write_narrow-requires t c =
 pub returns : goal.returns
 returns t c =
     let r = strip-asks _ _ _ _ _ _ _ _ _ c.requires.0 _ c.common_length-lifted.ensures.0 in
-    let l = copied _ _ _ c.requires.0.reads _ c.copy_node-node.ensures _ c.of_node-entries.ensures.lists in
+    let l = copied _ _ _ c.requires.0.reads _ c.copy_node.ensures _ c.of_node-entries.ensures.lists in
     let q = rw c.among.ensures.high at c.split_children.ensures.1 in
     let a : c.if-wide.inner ≡ after c.args.wide c.args.slot.at =
     elim c.if-wide.branch [

@@ -1,10 +1,7 @@
 -- The loop of `is_quiet`: no note from the place on is on the key. Relies on specs/Notes/Notes.
-use Rattle.std.specs.Prelude.{◌≡◌, ◌≤◌, true, drop}
+use Rattle.std.specs.Prelude.{◌≡◌, true, drop}
 use Rattle.live_count.specs.Notes.Notes.{kept, quiet}
 use Rattle.live_count.proofs.notes.Notes.is_quiet.Given as goal
 
 abbrev pub invariant-loop-i : goal.invariant-loop-i
-invariant-loop-i l = (l.i ≤ l.count) × (quiet (drop l.i (kept l.self)) l.key ≡ true)
-
-abbrev pub decreases-loop-i : goal.decreases-loop-i
-decreases-loop-i l = l.i
+invariant-loop-i l = quiet (drop l.i (kept l.self)) l.key ≡ true

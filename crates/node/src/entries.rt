@@ -84,8 +84,9 @@ fn split_child(bytes: &[u8]) -> Option<Entry>
     Some(Entry::Child(octets::u16_at(head, 0), pivot))
 }
 
-// The entry of a kind with this body.
-#[inline(always)] // with the two below: out of line an entry goes through memory, and a walk takes up to a third more instructions, on RISC-V up to two
+// The entry of a kind with this body. It and the two below are always inlined: out of line an entry goes through memory, and a walk takes up to a third
+// more instructions, on RISC-V twice as many.
+#[inline(always)]
 fn entry_of(kind: usize, body: &[u8]) -> Option<Entry>
     ensures { MatchOption result (NotOf kind body.now) (λ e. IsOf kind body.now e) }
 {

@@ -38,7 +38,7 @@ module _ (s : List ℕ) where
       by_questions true f true g = (f, g)
 
   -- the ways out of check
-  unfit : (r : Refusal) → outcome_number (Err r) ≡ check_no s → CheckMeets s (verdict_number (Err r)) (verdict_paths (Err r))
+  pub unfit : (r : Refusal) → outcome_number (Err r) ≡ check_no s → CheckMeets s (verdict_number (Err r)) (verdict_paths (Err r))
   unfolding verdict_number verdict_paths outcome_number
   unfit r e = record { answer = e; beside = beside_no (check_no s) (omega (arith, refusal-some r, e)) }
     where

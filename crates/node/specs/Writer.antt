@@ -103,6 +103,7 @@ longer-child-put p p₁ p₂ p₃ more key at i h a b c =
     ∙ ap (put p at) (child-bytes i more key)
 
 -- A PAGE WITH ITS FIRST BYTES
+-- the first bytes put into a page, and then the page into a store
 pub page-put : (page p₁ p₂ p₃ store store' : List ℕ) (num kind level size : ℕ) → p₁ ≡ put page 0 (u16_bytes size) → p₂ ≡ put p₁ 2 (u16_bytes kind) → p₃ ≡ put p₂ 4 (u16_bytes level)
     → store' ≡ put store (num * 1024) p₃ → store' ≡ put store (num * 1024) (put (put (put page 0 (u16_bytes size)) 2 (u16_bytes kind)) 4 (u16_bytes level))
 page-put page p₁ p₂ p₃ store store' num kind level size a b c d =
@@ -155,10 +156,10 @@ first-bytes-put store s₁ s₂ s₃ store' page num kind level size h l a b c d
     let p = put-size page 0 (u16_bytes size) (omega arith) in
     let q = put-size P 2 (u16_bytes kind) (omega arith) in
     let z : at ≡ at + 0 = omega arith in
-    let sized : s₂ ≡ put store at P = b ∙ ap₂ (λ x n. put x n (u16_bytes size)) a z ∙ put-within store page (u16_bytes size) at 0 (omega arith) (omega arith) in
-    let kinded : s₃ ≡ put store at Q = c ∙ ap (λ x. put x (at + 2) (u16_bytes kind)) sized ∙ put-within store P (u16_bytes kind) at 2 (omega arith) (omega arith) in
-    page-put page P Q (put Q 4 (u16_bytes level)) store store' num kind level size refl refl refl
-    (d ∙ ap (λ x. put x (at + 4) (u16_bytes level)) kinded ∙ put-within store Q (u16_bytes level) at 4 (omega arith) (omega arith))
+    d ∙ ap (λ x. put x (at + 4) (u16_bytes level))
+    (c ∙ ap (λ x. put x (at + 2) (u16_bytes kind)) (b ∙ ap₂ (λ x n. put x n (u16_bytes size)) a z ∙ put-within store page (u16_bytes size) at 0 (omega arith) (omega arith))
+    ∙ put-within store P (u16_bytes kind) at 2 (omega arith) (omega arith))
+    ∙ put-within store Q (u16_bytes level) at 4 (omega arith) (omega arith)
 
 -- AN ENTRY BY ITS KIND, and how many bytes it takes
 pub putting : (m : Message) (k v : Bor (List ℕ)) → m ≡ Message.Put k v → bytes_of (message (message_is m)) ≡ keyed_entry 32 k.now v.now
